@@ -16,7 +16,7 @@ _circ() {
   done
   case $word in
     -*)
-      COMPREPLY=($(compgen -W "--steps --derives" -- "$word"))
+      COMPREPLY=($(compgen -W "--steps --derives --split" -- "$word"))
       return
       ;;
   esac

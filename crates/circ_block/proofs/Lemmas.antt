@@ -1,9 +1,9 @@
 -- The goals of earlier blocks as rules, one by one.
-use Rattle.std.proofs.Common.{◌≡◌, ℕ, ◌+◌, ◌≤◌, ◌<◌, ◌^◌, Bool, true, false, if◌then◌else◌, List, [], ◌∷◌, ◌++◌, length, refl, ap, sym, ◌∙◌, arith, append_assoc, length-append}
+use Rattle.std.proofs.Common.{◌≡◌, ℕ, ◌+◌, ◌≤◌, ◌<◌, ◌^◌, Bool, true, false, if◌then◌else◌, List, [], ◌∷◌, ◌++◌, length, refl, ap, sym, subst, ◌∙◌, arith, append_assoc, length-append}
 use Rattle.std.proofs.lemmas.Bool.{and_parts}
 use Rattle.std.proofs.lemmas.List.{append-nil}
 use Rattle.circ_term.specs.Tree.{sort_of}
-use Rattle.circ_theory.specs.Theory.{Theory}
+use Rattle.circ_theory.specs.Theory.{Theory, Pair}
 use Rattle.circ_theory.specs.Observing.{is_hidden}
 use Rattle.circ_theory.specs.WellFormed.{IsWellFormed}
 use Rattle.circ_theory.specs.Rule.{is_rule}
@@ -14,7 +14,7 @@ use Rattle.circ_rewrite.specs.TheoryRules.{theory_rules, rules_from, rule_of}
 use Rattle.circ_rewrite.specs.declared.parts.Rule.{Rule}
 use Rattle.circ_memo.specs.Value.{Rewriting}
 use Rattle.circ_plain_search.specs.BlockRules.{can_rewrite, lemma_rule, passing, is_visible_lemma, is_hidden_lemma, lemma_rules, hidden_lemmas, block_rules}
-use Rattle.circ_block.specs.Rules.{IsRulesOf}
+use Rattle.circ_block.specs.Rules.{IsRulesOf, HaveRoom, rewriting_with, with_rule}
 use Rattle.circ_block.specs.declared.block.BlockRules.{BlockRules}
 
 -- one goal more
@@ -74,11 +74,8 @@ module _ (th : Theory) (E : List Goal) (g : Goal) (r : BlockRules) (h : IsRulesO
   abbrev all : List Goal
   all = E ++ g ∷ []
 
-  abbrev more : Rewriting → Rewriting
-  more m = record m { rules = m.rules ++ lemma_rule r.count g ∷ []; assumptions = [] }
-
-  abbrev by : List Rule → Rewriting
-  by R = record { theory = th; rules = R; assumptions = [] }
+  abbrev by : List Rule → List Pair → Rewriting
+  by R A = record { theory = th; rules = R; assumptions = A }
 
   counted : n ≡ length all
   counted = omega (arith, next, h.count, length-append E (g ∷ []))
@@ -86,11 +83,12 @@ module _ (th : Theory) (E : List Goal) (g : Goal) (r : BlockRules) (h : IsRulesO
   -- it does not rewrite
   pub put_none : can_rewrite g ≡ false → IsRulesOf th all (record r { count = n })
   put_none e =
-      let rules : block_rules th all ≡ block_rules th E = ap (λ rs. theory_rules th ++ rs) (passing_left (is_visible_lemma th) E g (rw e refl)) in
+      let rules : block_rules th E ≡ block_rules th all = sym (ap (λ rs. theory_rules th ++ rs) (passing_left (is_visible_lemma th) E g (rw e refl))) in
       record {
-        plain = h.plain ∙ ap by (sym rules);
+        goals = h.goals ∙ ap (λ R. by R r.goals.conds) rules;
+        aside = h.aside ∙ ap (λ R. by R r.aside.conds) rules;
         theory = h.theory;
-        rules = h.rules ∙ sym rules;
+        rules = h.rules ∙ rules;
         lemmas = h.lemmas ∙ sym (passing_left (is_hidden_lemma th) E g (rw e refl));
         count = counted;
       }
@@ -98,11 +96,12 @@ module _ (th : Theory) (E : List Goal) (g : Goal) (r : BlockRules) (h : IsRulesO
   -- it is hidden
   pub put_hidden : (L : List Rule) → can_rewrite g ≡ true → is_hidden th (sort_of g.left) ≡ true → L ≡ r.lemmas ++ lemma_rule r.count g ∷ [] → IsRulesOf th all (record r { lemmas = L; count = n })
   put_hidden L e hidden added =
-      let rules : block_rules th all ≡ block_rules th E = ap (λ rs. theory_rules th ++ rs) (passing_left (is_visible_lemma th) E g (rw (e, hidden) refl)) in
+      let rules : block_rules th E ≡ block_rules th all = sym (ap (λ rs. theory_rules th ++ rs) (passing_left (is_visible_lemma th) E g (rw (e, hidden) refl))) in
       record {
-        plain = h.plain ∙ ap by (sym rules);
+        goals = h.goals ∙ ap (λ R. by R r.goals.conds) rules;
+        aside = h.aside ∙ ap (λ R. by R r.aside.conds) rules;
         theory = h.theory;
-        rules = h.rules ∙ sym rules;
+        rules = h.rules ∙ rules;
         lemmas =
             added ∙ ap (λ rs. rs ++ lemma_rule r.count g ∷ []) h.lemmas ∙ ap (λ k. hidden_lemmas th 0 E ++ lemma_rule k g ∷ []) h.count
             ∙ sym (passing_taken (is_hidden_lemma th) E g (rw (e, hidden) refl));
@@ -110,18 +109,48 @@ module _ (th : Theory) (E : List Goal) (g : Goal) (r : BlockRules) (h : IsRulesO
       }
 
   -- it is visible
-  pub put_visible : (p q : Rewriting) → can_rewrite g ≡ true → is_hidden th (sort_of g.left) ≡ false
-      → p ≡ more r.plain → q ≡ more r.cases
-      → IsRulesOf th all (record r { plain = p; cases = q; count = n })
-  put_visible p q e visible plain cases = record {
-    plain = plain ∙ ap more h.plain ∙ ap by rules;
-    theory = ap (λ m. m.theory) cases ∙ h.theory;
-    rules = ap (λ m. m.rules) cases ∙ ap (λ rs. rs ++ lemma_rule r.count g ∷ []) h.rules ∙ rules;
-    lemmas = h.lemmas ∙ sym (passing_left (is_hidden_lemma th) E g (rw (e, visible) refl));
-    count = counted;
-  }
+  pub put_visible : (w : BlockRules) → can_rewrite g ≡ true → is_hidden th (sort_of g.left) ≡ false → w ≡ with_rule (lemma_rule r.count g) (record r { count = n })
+      → IsRulesOf th all w
+  put_visible w e visible is =
+      let P : BlockRules → Type 0 = λ b. IsRulesOf th all b in
+      subst P (sym is)
+      (record {
+        goals = ap (rewriting_with (lemma_rule r.count g)) h.goals ∙ ap (λ R. by R []) rules;
+        aside = ap (rewriting_with (lemma_rule r.count g)) h.aside ∙ ap (λ R. by R []) rules;
+        theory = h.theory;
+        rules = ap (λ rs. rs ++ lemma_rule r.count g ∷ []) h.rules ∙ rules;
+        lemmas = h.lemmas ∙ sym (passing_left (is_hidden_lemma th) E g (rw (e, visible) refl));
+        count = counted;
+      })
     where
       rules : block_rules th E ++ lemma_rule r.count g ∷ [] ≡ block_rules th all
       rules =
           ap (λ k. block_rules th E ++ lemma_rule k g ∷ []) h.count ∙ append_assoc (theory_rules th) (lemma_rules th 0 E) (lemma_rule (length E) g ∷ [])
           ∙ ap (λ rs. theory_rules th ++ rs) (sym (passing_taken (is_visible_lemma th) E g (rw (e, visible) refl)))
+
+-- there is room for a rule more, and for a lemma more
+pub rules_room : (th : Theory) → IsWellFormed th → (E : List Goal) (r : BlockRules) → IsRulesOf th E r → length E ≤ 100000 → HaveRoom r
+rules_room th ok E r h few =
+    let some = block_few th ok E few in
+    record {
+      goals = rw h.goals some;
+      aside = rw h.aside some;
+      cases = rw h.rules some;
+    }
+
+pub lemmas_room : (th : Theory) (E : List Goal) (r : BlockRules) → IsRulesOf th E r → length E ≤ 100000 → length r.lemmas + 1 < 2 ^ 32
+lemmas_room th E r h few = rw h.lemmas (lemmas_few th E few)
+
+-- nothing is assumed
+pub forgotten : (th : Theory) (E : List Goal) (r w : BlockRules) → IsRulesOf th E r
+    → w ≡ record r {
+      goals = record { reducer = record r.goals.reducer { assumptions = [] }; conds = [] };
+      aside = record { reducer = record r.aside.reducer { assumptions = [] }; conds = [] };
+      cases = record r.cases { assumptions = [] };
+    }
+    → IsRulesOf th E w
+forgotten th E r w h is =
+    let bare : Rewriting → Rewriting = λ m. record m { assumptions = [] } in
+    let P : BlockRules → Type 0 = λ b. IsRulesOf th E b in
+    subst P (sym is)
+    (record { goals = ap bare h.goals; aside = ap bare h.aside; theory = h.theory; rules = h.rules; lemmas = h.lemmas; count = h.count })

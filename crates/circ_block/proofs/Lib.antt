@@ -1,3 +1,4 @@
 pub mod Bound
+pub mod DeepChains
 pub mod Lemmas
 pub mod Limited

@@ -22,9 +22,8 @@ use Rattle.circ_rules.specs.Derivatives.{Cause, No_numbers, Past, sides_limit, c
 use Rattle.circ_rules.specs.declared.fault.DeriveFault.TheVariants as fault
 use Rattle.circ_plain_search.specs.Joining.{Past_limit}
 use Rattle.circ_plain_search.specs.Search.{goals_limit, unless_past}
-use Rattle.circ_plain_search.specs.Coming.{IsReady}
 use Rattle.circ_join.specs.Stopping.{Stops, term_stop}
-use Rattle.circ_block.specs.Derived.{GivesDerivatives}
+use Rattle.circ_block.specs.Derived.{CanBeDerived, GivesDerivatives}
 
 -- there are numbers for the parameters
 abbrev HasNumbers : Goal → Derivative → Type 0
@@ -57,7 +56,7 @@ causes_are_limits g (d ∷ ds) h =
     go None (Some r) o = refl
     go (Some l) r o = refl
 
-module _ (th : Theory) (ok : IsWellFormed th) (g : Goal) (ready : IsReady th g) where
+module _ (th : Theory) (ok : IsWellFormed th) (g : Goal) (ready : CanBeDerived th g) where
   cause : first_cause g (derivatives_of th (sort_of g.left)) ≡ option_map Past (goals_limit (derivatives_on th g))
   cause = causes_are_limits g (derivatives_of th (sort_of g.left)) (have_numbers th ok g ready.numbers)
 

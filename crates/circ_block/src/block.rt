@@ -1,30 +1,31 @@
 //! The rules and the lemmas of a block.
 ghost use Rattle.std.specs.Prelude.{◌≡◌, ◌≤◌, ◌<◌, ◌+◌, ◌^◌, ◌++◌, ◌∷◌, []};
-ghost use Rattle.std.specs.Prelude.{List, length, take, true, IfOk, OnOk};
-ghost use Rattle.std.specs.List.{AllByRecursion};
-ghost use Rattle.circ_theory.specs.Rule.{is_bound};
-ghost use Rattle.circ_theory.specs.Theory.{goal, HasNoConditions};
+ghost use Rattle.std.specs.Prelude.{List, length, map, take, true, IfOk, OnOk};
+ghost use Rattle.circ_theory.specs.Pairs.{plain_pair};
+ghost use Rattle.circ_theory.specs.Theory.{Theory as TheTheory};
 ghost use Rattle.circ_theory.specs.declared.parts.Goal.{Goal as TheGoal};
-ghost use Rattle.circ_rewrite.specs.Due.{IsRewriteRule, AreUnconditional};
-ghost use Rattle.circ_plain_search.specs.BlockRules.{HaveNoConditions, can_rewrite, lemma_rule};
-ghost use Rattle.circ_block.specs.Rules.{IsRulesOf};
+ghost use Rattle.circ_plain_search.specs.BlockRules.{can_rewrite, lemma_rule};
+ghost use Rattle.circ_block.specs.Rules.{IsRulesOf, HaveRoom, with_rule};
 
+use crate::lemma::{can_rewrite, lemma_rule};
+use crate::reducing::{GoalReducer, goal_reducers, push_rule};
 use circ_join::Lemmas;
-use circ_memo::Memo;
-use circ_rewrite::{Rule, RuleName, share_rules, theory_rules};
-use circ_term::Term;
-use circ_theory::{Goal, Theory, gather};
-use indexmap::IndexSet;
+use circ_rewrite::theory_rules;
+use circ_theory::{Goal, Pair, Theory};
+use circ_tries::Reducer;
 use std::alloc::{AllocError, Global};
+use std::mem;
 
 /// The rules of a block, with the normal forms by them, and the lemmas of its lemma passes. The
 /// rules are those of the theory, and the visible goals of earlier blocks that rewrite.
 #[derive(Drop)]
 pub struct BlockRules<'a> {
-    /// Normal forms without assumptions, which are kept over the whole block.
-    pub plain: Memo<'a>,
+    /// Normal forms under the conditions of the goal in hand.
+    pub goals: GoalReducer<'a>,
+    /// The same under those of a goal before: that without conditions is kept over the whole block.
+    pub aside: GoalReducer<'a>,
     /// Normal forms under the assumptions of a case.
-    pub cases: Memo<'a>,
+    pub cases: Reducer<'a>,
     /// The hidden goals of earlier blocks that rewrite.
     pub lemmas: Lemmas,
     /// How many goals of earlier blocks there are.
@@ -32,47 +33,80 @@ pub struct BlockRules<'a> {
 }
 
 impl<'a> BlockRules<'a> {
-    /// The rules of the first block. The theory has no conditions.
+    /// The rules of the first block. The goal in hand has no conditions.
     pub fn new(alloc: Global, theory: &'a Theory) -> Result<BlockRules<'a>, AllocError>
-        requires { HasNoConditions theory.now }
-        ensures { IfOk result (λ r. IsRulesOf theory.now [] r) }
+        ensures rules { IfOk result (λ r. IsRulesOf theory.now [] r) }
+        ensures conds { IfOk result (λ r. r.goals.conds ≡ []) }
     {
-        theory.known();
         let rules = theory_rules(alloc, theory)?;
-        let (plain, cases) = memos(alloc, theory, rules)?;
+        let (goals, aside) = goal_reducers(alloc, theory, rules.as_slice())?;
+        let cases = Reducer::new(alloc, theory, rules)?;
         Ok(BlockRules {
-            plain,
+            goals,
+            aside,
             cases,
             lemmas: Lemmas::new(alloc),
             count: 0,
         })
     }
 
-    /// The rules of the next block, after these goals of earlier blocks, which have no conditions.
-    /// The first of them are those that the rules are of, and only the others are gone through.
+    /// These are the conditions of the goal in hand. What is known of terms is kept where the goal
+    /// before had the same conditions. What is known without conditions is kept over the whole
+    /// block, and what is known under some until a goal has others.
+    pub fn assume(&mut self, alloc: Global, conds: &[Pair]) -> Result<(), AllocError>
+        requires few { length conds.now < 2 ^ 32 }
+        ensures rules { (th : TheTheory) (E : List TheGoal) → IsRulesOf th E self.old
+            → IsRulesOf th E self.new }
+        ensures conds { OnOk result (self.new.goals.conds ≡ map plain_pair conds.now) }
+    {
+        self.turn_to(conds.is_empty());
+        self.goals.assume(alloc, conds)
+    }
+
+    // Whether the goal in hand has no conditions is given. Where the goal before differs from it in
+    // that, what was put aside comes into use again.
+    fn turn_to(&mut self, bare: bool)
+        ensures { (th : TheTheory) (E : List TheGoal) → IsRulesOf th E self.old
+            → IsRulesOf th E self.new }
+    {
+        if bare != (self.goals.conds.len() == 0) {
+            mem::swap(&mut self.goals, &mut self.aside);
+        }
+    }
+
+    /// The rules of the next block, after these goals of earlier blocks. The first of them are
+    /// those that the rules are of, and only the others are gone through.
     pub fn next_block(
         &mut self,
         alloc: Global,
         theory: &Theory,
         earlier: &[Goal],
     ) -> Result<(), AllocError>
-        requires plain { HaveNoConditions earlier.now }
         requires few { length earlier.now ≤ 100000 }
         requires before { IsRulesOf theory.now (take self.old.count earlier.now) self.old }
         ensures { OnOk result (IsRulesOf theory.now earlier.now self.new) }
     {
-        self.plain.forget();
-        self.cases.forget();
+        self.forget(alloc);
         for n in self.count as usize..earlier.len() {
             self.put_goal(alloc, theory, &earlier[n])?;
         }
         Ok(())
     }
 
+    // Nothing is known of terms.
+    fn forget(&mut self, alloc: Global)
+        ensures rules { (th : TheTheory) (E : List TheGoal) → IsRulesOf th E self.old
+            → IsRulesOf th E self.new }
+        ensures count { self.new.count ≡ self.old.count }
+    {
+        self.goals.forget(alloc);
+        self.aside.forget(alloc);
+        self.cases.forget();
+    }
+
     // A goal that rewrites goes behind the rules where it is visible, and behind the lemmas where
     // it is hidden.
     fn put_goal(&mut self, alloc: Global, theory: &Theory, goal: &Goal) -> Result<(), AllocError>
-        requires plain { goal.now.conds ≡ [] }
         requires few { (E : List TheGoal) × IsRulesOf theory.now E self.old × (length E < 100000) }
         ensures { (E : List TheGoal) → IsRulesOf theory.now E self.old
             → OnOk result (IsRulesOf theory.now (E ++ goal.now ∷ []) self.new) }
@@ -86,7 +120,17 @@ impl<'a> BlockRules<'a> {
         if theory.is_hidden(goal.left.sort()) {
             return push_lemma(alloc, &mut self.lemmas, number, goal);
         }
-        push_rule(alloc, &mut self.plain, number, goal)?;
+        self.push_rule(alloc, number, goal)
+    }
+
+    // The goal goes behind the rules.
+    fn push_rule(&mut self, alloc: Global, number: u32, goal: &Goal) -> Result<(), AllocError>
+        requires rewrites { can_rewrite goal.now ≡ true }
+        requires few { HaveRoom self.old }
+        ensures { OnOk result (self.new ≡ with_rule (lemma_rule number goal.now) self.old) }
+    {
+        self.goals.push(alloc, number, goal)?;
+        self.aside.push(alloc, number, goal)?;
         push_rule(alloc, &mut self.cases, number, goal)
     }
 }
@@ -99,81 +143,9 @@ fn push_lemma(
     goal: &Goal,
 ) -> Result<(), AllocError>
     requires rewrites { can_rewrite goal.now ≡ true }
-    requires plain { goal.now.conds ≡ [] }
     requires few { length lemmas.old + 1 < 2 ^ 32 }
     ensures { OnOk result (lemmas.new ≡ lemmas.old ++ lemma_rule number goal.now ∷ []) }
 {
     let rule = lemma_rule(alloc, number, goal)?;
     lemmas.push(rule)
-}
-
-// The goal goes behind the rules.
-fn push_rule(alloc: Global, memo: &mut Memo<'_>, number: u32, goal: &Goal) -> Result<(), AllocError>
-    requires rewrites { can_rewrite goal.now ≡ true }
-    requires plain { goal.now.conds ≡ [] }
-    requires few { length memo.old.rules + 1 < 2 ^ 32 }
-    ensures { OnOk result (memo.new ≡ record memo.old {
-      rules = memo.old.rules ++ lemma_rule number goal.now ∷ [];
-      assumptions = [];
-    }) }
-{
-    let rule = lemma_rule(alloc, number, goal)?;
-    memo.push(rule)
-}
-
-// Two memos of these rules, without assumptions.
-fn memos<'a>(
-    alloc: Global,
-    theory: &'a Theory,
-    rules: Vec<Rule>,
-) -> Result<(Memo<'a>, Memo<'a>), AllocError>
-    requires rewrite { AllByRecursion IsRewriteRule rules.items }
-    requires unconditional { AreUnconditional rules.items }
-    requires few { length rules.items < 2 ^ 32 }
-    ensures plain { IfOk result (λ m. m.0 ≡ record {
-      theory = theory.now;
-      rules = rules.items;
-      assumptions = [];
-    }) }
-    ensures cases { IfOk result (λ m. m.1 ≡ m.0) }
-{
-    let copy = share_rules(alloc, rules.as_slice())?;
-    let plain = Memo::new(alloc, theory, rules)?;
-    let cases = Memo::new(alloc, theory, copy)?;
-    Ok((plain, cases))
-}
-
-fn lemma_rule(alloc: Global, number: u32, goal: &Goal) -> Result<Rule, AllocError>
-    ensures { IfOk result (λ r. r ≡ lemma_rule number goal.now) }
-{
-    let left = goal.left.share()?;
-    let right = goal.right.share()?;
-    let conds = goal.conds.share(alloc)?;
-    Ok(Rule {
-        name: RuleName::Lemma { number },
-        left,
-        right,
-        conds,
-    })
-}
-
-// Whether the left side is no variable, and has all variables of the right side.
-fn can_rewrite(alloc: Global, goal: &Goal) -> Result<bool, AllocError>
-    requires { goal.now.conds ≡ [] }
-    ensures { IfOk result (λ b. b ≡ can_rewrite goal.now) }
-{
-    if goal.left.op_number().is_none() {
-        return Ok(false);
-    }
-    is_bound(alloc, &goal.left, &goal.right)
-}
-
-fn is_bound(alloc: Global, left: &Term, right: &Term) -> Result<bool, AllocError>
-    ensures { IfOk result (λ b. b ≡ is_bound (goal [] left.now right.now)) }
-{
-    let mut variables = IndexSet::new(alloc);
-    gather(left, &mut variables)?;
-    let count = variables.len();
-    gather(right, &mut variables)?;
-    Ok(variables.len() == count)
 }

@@ -1,6 +1,5 @@
 //! The goals that Derive makes, in a search.
-ghost use Rattle.circ_plain_search.specs.Coming.{IsReady};
-ghost use Rattle.circ_block.specs.Derived.{GivesDerivatives};
+ghost use Rattle.circ_block.specs.Derived.{CanBeDerived, GivesDerivatives};
 
 use circ_join::Stop;
 use circ_rules::DeriveFault;
@@ -8,9 +7,10 @@ use circ_theory::{Goal, Theory};
 use std::alloc::Global;
 use std::collections::VecDeque;
 
-/// The derivatives of a goal: that of each derivative of its sort, with fresh parameters.
+/// The derivatives of a goal: that of each derivative of its sort, with fresh parameters, under the
+/// goal's conditions.
 pub fn derivatives_on(alloc: Global, theory: &Theory, goal: &Goal) -> Result<VecDeque<Goal>, Stop>
-    requires fine { IsReady theory.now goal.now }
+    requires ready { CanBeDerived theory.now goal.now }
     ensures { GivesDerivatives theory.now goal.now result }
 {
     theory.known();

@@ -20,6 +20,7 @@ pub mod Numbered
 pub mod Certificates
 pub mod Versions
 pub mod Accepting
+pub mod Coming
 pub mod BareParts
 pub mod BareDeep
 pub mod BareTurns

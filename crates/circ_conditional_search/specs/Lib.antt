@@ -2,4 +2,5 @@ pub mod Joining
 pub mod Search
 pub mod Versions
 pub mod ConditionalSearch
+pub mod Coming
 pub mod Examples

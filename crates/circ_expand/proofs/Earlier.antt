@@ -5,13 +5,13 @@ use Rattle.std.specs.Option.{option_map_or}
 use Rattle.std.proofs.lemmas.Bool.{ltb-true, ltb-false}
 use Rattle.circ_term.specs.Tree.{Tree}
 use Rattle.circ_theory.specs.Theory.{Derivative}
-use Rattle.circ_expand.specs.Followed.{History, Open, no_history, more_histories, first_history, other_histories}
-use Rattle.circ_expand.specs.Expand.{child}
-use Rattle.circ_expand.specs.Histories.{histories_of, history_at, history_below, history_with}
-use Rattle.circ_expand.specs.Tasks.{holes_before}
-use Rattle.circ_expand.specs.declared.histories.Node.{Node}
-use Rattle.circ_expand.proofs.Below.{not_below, node_is, descend}
-use Rattle.circ_expand.proofs.Guarding.{drop_at}
+use Rattle.circ_expansion.specs.Followed.{History, Open, no_history, more_histories, first_history, other_histories}
+use Rattle.circ_expansion.specs.Expand.{child}
+use Rattle.circ_book.specs.Histories.{histories_of, history_at, history_below, history_with}
+use Rattle.circ_tasks.specs.Tasks.{holes_before}
+use Rattle.circ_book.specs.declared.histories.Node.{Node}
+use Rattle.circ_book.proofs.Below.{not_below, node_is, descend}
+use Rattle.circ_uses.proofs.Guarding.{drop_at}
 
 -- a node before another is told of in the same way by both
 pub earlier_same : (table : List Tree) (ns : List Node) (k j : ℕ) → k < length ns

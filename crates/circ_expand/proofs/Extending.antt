@@ -7,8 +7,8 @@ use Rattle.circ_term.specs.Substitution.{Substitution}
 use Rattle.circ_theory.specs.Theory.{Theory, Derivative}
 use Rattle.circ_theory.specs.Observing.{derivative_with}
 use Rattle.circ_entry.specs.Entries.{derivative_at, no_derivative}
-use Rattle.circ_expand.specs.Expand.{extended}
-use Rattle.circ_expand.proofs.Holes.{same_by}
+use Rattle.circ_expansion.specs.Expand.{extended}
+use Rattle.circ_uses.proofs.Holes.{same_by}
 
 -- the body of a derivative, or of what stands for one
 pub body_at : (th : Theory) (n : ℕ) (o : Option Tree) → o ≡ option_map (λ (d : Derivative). d.body) (slice_get th.derivatives n)

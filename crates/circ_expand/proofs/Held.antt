@@ -8,9 +8,9 @@ use Rattle.circ_theory.specs.Limits.{argument_limit}
 use Rattle.circ_entry.specs.Entries.{Numbered, numbered_of, numbered_entries}
 use Rattle.circ_entry.specs.Plain.{plain_entry, plain_entries}
 use Rattle.circ_entry.specs.declared.entries.Entry.{Entry}
-use Rattle.circ_expand.specs.Uses.{held_by, entries_of}
-use Rattle.circ_expand.specs.Tasks.{AreFew}
-use Rattle.circ_expand.specs.declared.uses.Held.{Held}
+use Rattle.circ_uses.specs.Uses.{held_by, entries_of}
+use Rattle.circ_tasks.specs.Tasks.{AreFew}
+use Rattle.circ_uses.specs.declared.uses.Held.{Held}
 
 pub few_at : (es : List Entry) (i : ℕ) (e : Entry) → i < length es → e ≡ get_or es i e → AreFew es → length e.params.items ≤ argument_limit
 few_at [] i e lt is f = absurd (omega (arith, lt))

@@ -24,39 +24,34 @@ use Rattle.circ_proof.specs.Accepted.{certificates_of, Accepted}
 use Rattle.circ_entry.specs.Entries.{Numbered, Written, FitsWritten, bare_entries, numbered_entries}
 use Rattle.circ_entry.specs.Plain.{plain_entries}
 use Rattle.circ_entry.specs.declared.entries.Entry.{Entry as WrittenEntry}
-use Rattle.circ_expand.specs.Followed.{goal_in, goals_of, hypotheses_of, Followed as History_in}
-use Rattle.circ_expand.specs.Pieces.{Pieces}
-use Rattle.circ_expand.specs.Expand.{Spending, Yields, Long, Past, Stopped, continued, tested, all_tested, stages, followed_at, no_followed, Background, background_of, certificate_of, Call as Use, expansion}
-use Rattle.circ_expand.specs.Machine.{Value, In_row, In_parts, Pending, pending, Begin_use, rest_done, last_row, worked_off}
-use Rattle.circ_expand.specs.Uses.{first_of}
-use Rattle.circ_expand.specs.Values.{values_of, IsLastRow}
-use Rattle.circ_expand.specs.Book.{followed_by, hypotheses_in, IsBook}
-use Rattle.circ_expand.specs.Certificates.{lists_in}
-use Rattle.circ_expand.specs.Rows.{plain_row, rows_of, IsWrittenOut}
-use Rattle.circ_expand.specs.Tasks.{background_in, followed_of, opening_of, worked_in, WritesOut, EndsIn, Halts, AreFew, jobs_of, left_of, past_of}
+use Rattle.circ_expansion.specs.Followed.{goal_in, goals_of, hypotheses_of, Followed as History_in}
+use Rattle.circ_expansion.specs.Pieces.{Pieces}
+use Rattle.circ_expansion.specs.Expand.{Spending, Yields, Long, Past, Stopped, continued, tested, all_tested, stages, followed_at, no_followed, Background, background_of, certificate_of, Call as Use, expansion}
+use Rattle.circ_expansion.specs.Machine.{Value, In_row, In_parts, Pending, pending, Begin_use, rest_done, last_row, worked_off}
+use Rattle.circ_uses.specs.Uses.{first_of}
+use Rattle.circ_written.specs.Values.{values_of, IsLastRow}
+use Rattle.circ_book.specs.Book.{followed_by, hypotheses_in, IsBook}
+use Rattle.circ_uses.specs.Certificates.{lists_in}
+use Rattle.circ_written.specs.Rows.{plain_row, rows_of}
+use Rattle.circ_expand.specs.Outcomes.{IsWrittenOut}
+use Rattle.circ_tasks.specs.Tasks.{background_in, followed_of, opening_of, worked_in, WritesOut, EndsIn, Halts, AreFew, jobs_of, left_of, past_of}
 use Rattle.circ_expand.specs.declared.fault.ExpandFault.TheVariants as fault
-use Rattle.circ_expand.specs.Answers.{LeadsOnGoal}
-use Rattle.circ_expand.specs.Goals.{FitGoal, all_goals}
+use Rattle.circ_expansion.specs.Answers.{LeadsOnGoal}
+use Rattle.circ_expansion.specs.Goals.{FitGoal, all_goals}
 use Rattle.circ_theory.specs.declared.parts.Goal.{Goal}
 use Rattle.std.proofs.lemmas.Option.{same_Some}
-use Rattle.circ_expand.proofs.Expanding.{expansion_goes, given_leads, never_stops}
-use Rattle.circ_expand.proofs.Working.{worked_right}
-use Rattle.circ_expand.specs.declared.rows.Row.{Row}
-use Rattle.circ_expand.specs.declared.book.Followed.{Followed}
-use Rattle.circ_expand.specs.declared.calls.Frame.{Frame}
-use Rattle.circ_expand.specs.declared.tasks.Halt.{Halt}
-use Rattle.circ_expand.specs.declared.tasks.Halt.TheVariants as halt
-use Rattle.circ_expand.specs.declared.tasks.Work.{Work}
-use Rattle.circ_expand.proofs.Background.{followed_one}
-use Rattle.circ_expand.proofs.Rising.{none_first}
-use Rattle.circ_expand.proofs.Leaving.{halts_on}
-use Rattle.circ_expand.proofs.Stepping.{tests_none, tested_none, names_tests}
-
-pub first_both : (xs ys : List Tree) → first_of xs ≡ None → first_of ys ≡ None → first_of (xs ++ ys) ≡ None
-first_both xs ys a b = none_first xs ys a ∙ b
-
-pub names_both : (xs ys : List Tree) (e : TermFault) → first_of xs ≡ None → Names e (first_of ys) → Names e (first_of (xs ++ ys))
-names_both xs ys e a h = let P : Option Limit → Type 0 = λ o. Names e o in subst P (sym (none_first xs ys a)) h
+use Rattle.circ_expansion.proofs.Expanding.{expansion_goes, given_leads, never_stops}
+use Rattle.circ_expansion.proofs.Working.{worked_right}
+use Rattle.circ_written.specs.declared.rows.Row.{Row}
+use Rattle.circ_book.specs.declared.book.Followed.{Followed}
+use Rattle.circ_tasks.specs.declared.calls.Frame.{Frame}
+use Rattle.circ_tasks.specs.declared.tasks.Halt.{Halt}
+use Rattle.circ_tasks.specs.declared.tasks.Halt.TheVariants as halt
+use Rattle.circ_tasks.specs.declared.tasks.Work.{Work}
+use Rattle.circ_tasks.proofs.Background.{followed_one}
+use Rattle.circ_uses.proofs.Rising.{none_first}
+use Rattle.circ_tasks.proofs.Leaving.{halts_on}
+use Rattle.circ_tasks.proofs.Stepping.{tests_none, tested_none, names_tests}
 
 -- the terms at the start are past a limit, or the work is done
 pub worked_past : (fr : Frame) (n : ℕ) (cs : List Numbered) (k : ℕ) (e : TermFault)
@@ -209,10 +204,6 @@ rows_lead th ok p f pl a n ws fit k rows w g e =
 pub exact_rows : (th : Theory) (p : Proof) (n : ℕ) (ws : List Written) (k : ℕ) (rows : Vec Row) → WritesOut (worked_off k th p n ws) (Ok rows)
     → IsWrittenOut (expansion k th p n ws) (Ok rows)
 exact_rows th p n ws k rows w = (w.0, w.1, worked_right k th p n ws ∙ w.2, w.3)
-
-pub exact_long : (th : Theory) (p : Proof) (n : ℕ) (ws : List Written) (k : ℕ) → worked_off k th p n ws ≡ Long
-    → IsWrittenOut (expansion k th p n ws) (Err (fault.Long 100001))
-exact_long th p n ws k e = (worked_right k th p n ws ∙ e, refl)
 
 -- the limit that a fault names
 pub past_named : {X : Type 0} (o : Spending X) (l : Limit) → past_of o ≡ Some l → o ≡ Past l

@@ -4,7 +4,7 @@ ghost use Rattle.std.specs.List.{slice_get};
 ghost use Rattle.circ_proof.specs.PlainProof.{plain_block, plain_proof};
 ghost use Rattle.circ_entry.specs.Entries.{HaveParameters};
 ghost use Rattle.circ_entry.specs.Plain.{plain_entries};
-ghost use Rattle.circ_expand.specs.Goals.{all_goals, goal_misfit, FitGoal};
+ghost use Rattle.circ_expansion.specs.Goals.{all_goals, goal_misfit, FitGoal};
 
 use circ_entry::{Entry, misfit};
 use circ_proof::{Block, Proof};

@@ -8,43 +8,15 @@
 //! [`goal_misfit`] tells whether there is such a goal, and whether the experiment fits it.
 #![tactic(auto)]
 
-mod book;
-mod bounds;
-mod by;
-mod calls;
-mod certified;
-mod change_steps;
 mod fault;
-mod fitting;
-mod fronts;
 mod goal_steps;
 mod goals;
-mod guards;
-mod histories;
-mod laws;
-mod leading;
-mod link_steps;
-mod links;
-mod matching;
-mod meetings;
-mod nodes;
 mod opening;
-mod paths;
-mod place_steps;
-mod reason_steps;
-mod rows;
 mod running;
-mod starting;
-mod tasks;
-mod uses;
-mod valuation;
-mod values;
-mod variables;
-mod writing;
 mod writing_out;
 
+pub use circ_expansion::laws::{expansion_is_worked_off, expansion_leads};
+pub use circ_written::{Given, Row};
 pub use fault::ExpandFault;
 pub use goals::{goal_misfit, goal_numbered};
-pub use laws::{expansion_is_worked_off, expansion_leads};
-pub use rows::{Given, Row};
 pub use writing_out::expand;

@@ -1,77 +1,77 @@
 //! Tasks are worked off.
 ghost use Rattle.std.specs.Prelude.{◌≡◌, ◌<◌, ◌≤◌, ◌⊎◌, [], IfErr, OnOk};
-ghost use Rattle.circ_expand.specs.Expand.{Yields};
-ghost use Rattle.circ_expand.specs.Machine.{Begin_use, Empty_row, Put_behind, Put_between, Add_part};
-ghost use Rattle.circ_expand.specs.Machine.{End_split};
-ghost use Rattle.circ_expand.specs.Values.{values_of};
-ghost use Rattle.circ_expand.specs.Tasks.{Steps, StepsAlike, Halts, call_of, stepped, simpler_use};
-ghost use Rattle.circ_expand.specs.Tasks.{next_stepped, left_of};
-ghost use Rattle.circ_expand.specs.declared.calls.Frame.{Frame as TheFrame};
+ghost use Rattle.circ_expansion.specs.Expand.{Yields};
+ghost use Rattle.circ_expansion.specs.Machine.{Begin_use, Empty_row, Put_behind, Put_between, Add_part};
+ghost use Rattle.circ_expansion.specs.Machine.{End_split};
+ghost use Rattle.circ_written.specs.Values.{values_of};
+ghost use Rattle.circ_tasks.specs.Tasks.{Steps, StepsAlike, Halts, call_of, stepped, simpler_use};
+ghost use Rattle.circ_tasks.specs.Tasks.{next_stepped, left_of};
+ghost use Rattle.circ_tasks.specs.declared.calls.Frame.{Frame as TheFrame};
 
-use crate::calls::{Call, Frame};
-use crate::tasks::{Halt, Simpler, Task, Work};
+use crate::goal_steps::{enter_simpler, use_step};
+use circ_link_steps::{begin_split, links_step, reason_step, reasons_step};
+use circ_place_steps::{changes_step, first_step};
+use circ_tasks::{Call, Frame, Halt, Simpler, Task, Work};
 use circ_term::Term;
 use circ_theory::Way;
 use std::rc::Rc;
 
-impl<'a> Frame<'a, '_> {
-    // One task is done, or other tasks are put in its place.
-    fn step(&self, work: &mut Work<'a>, task: Task<'a>) -> Result<(), Halt>
-        ensures { StepsAlike self.now (next_stepped self.now task.entry work.old) work.new result }
-    {
-        match task {
-            Task::Links(links) => self.links_step(work, links),
-            Task::GiveReason(reason) => self.reason_step(work, reason),
-            Task::GiveReasons(reasons) => self.reasons_step(work, reasons),
-            Task::BeginUse(call) => begin_use(work, call),
-            Task::EnterUse(call) => self.use_step(work, call),
-            Task::BeginSimpler(simpler) => begin_simpler(work, simpler),
-            Task::EnterSimpler(simpler) => self.enter_simpler(work, simpler),
-            Task::FirstChange { changes, by } => self.first_step(work, changes, &by),
-            Task::NextChange { changes, here } => self.changes_step(work, changes, here),
-            Task::EmptyRow => add_empty(work),
-            Task::PutBehind(way) => put_behind(work, way),
-            Task::PutBetween => put_between(work),
-            Task::AddPart => add_part(work),
-            Task::Split(reasons) => self.begin_split(work, reasons),
-            Task::EndSplit(term) => end_split(work, term),
-        }
+// One task is done, or other tasks are put in its place.
+fn step<'a>(frame: &Frame<'a, '_>, work: &mut Work<'a>, task: Task<'a>) -> Result<(), Halt>
+    ensures { StepsAlike frame.now (next_stepped frame.now task.entry work.old) work.new result }
+{
+    match task {
+        Task::Links(links) => links_step(frame, work, links),
+        Task::GiveReason(reason) => reason_step(frame, work, reason),
+        Task::GiveReasons(reasons) => reasons_step(frame, work, reasons),
+        Task::BeginUse(call) => begin_use(work, call),
+        Task::EnterUse(call) => use_step(frame, work, call),
+        Task::BeginSimpler(simpler) => begin_simpler(work, simpler),
+        Task::EnterSimpler(simpler) => enter_simpler(frame, work, simpler),
+        Task::FirstChange { changes, by } => first_step(frame, work, changes, &by),
+        Task::NextChange { changes, here } => changes_step(frame, work, changes, here),
+        Task::EmptyRow => add_empty(work),
+        Task::PutBehind(way) => put_behind(work, way),
+        Task::PutBetween => put_between(work),
+        Task::AddPart => add_part(work),
+        Task::Split(reasons) => begin_split(frame, work, reasons),
+        Task::EndSplit(term) => end_split(work, term),
     }
+}
 
-    // Tasks are done until a unit is begun, or none is left.
-    fn until_counted(&self, work: &mut Work<'a>) -> Result<(), Halt>
-        ensures same { OnOk result (left_of self.now work.old ≡ left_of self.now work.new) }
-        ensures less { OnOk result ((work.new.left < work.old.left) ⊎
-            (work.new.left ≤ work.old.left) × (work.new.tasks.items ≡ [])) }
-        ensures halts { IfErr result (Halts (left_of self.now work.old)) }
-    {
-        let units = work.left;
-        while let Some(task) = work.tasks.pop() {
-            match self.step(work, task) {
-                Ok(()) => (),
-                Err(halt) => return Err(halt),
-            }
-            if work.left < units {
-                return Ok(());
-            }
+// Tasks are done until a unit is begun, or none is left.
+fn until_counted<'a>(frame: &Frame<'a, '_>, work: &mut Work<'a>) -> Result<(), Halt>
+    ensures same { OnOk result (left_of frame.now work.old ≡ left_of frame.now work.new) }
+    ensures less { OnOk result ((work.new.left < work.old.left) ⊎
+        (work.new.left ≤ work.old.left) × (work.new.tasks.items ≡ [])) }
+    ensures halts { IfErr result (Halts (left_of frame.now work.old)) }
+{
+    let units = work.left;
+    while let Some(task) = work.tasks.pop() {
+        match step(frame, work, task) {
+            Ok(()) => (),
+            Err(halt) => return Err(halt),
         }
-        Ok(())
+        if work.left < units {
+            return Ok(());
+        }
     }
+    Ok(())
+}
 
-    // All tasks are done.
-    pub(crate) fn run(&self, work: &mut Work<'a>) -> Result<(), Halt>
-        ensures done { OnOk result (left_of self.now work.old ≡
-            Yields (values_of work.new.values) work.new.left) }
-        ensures halts { IfErr result (Halts (left_of self.now work.old)) }
-    {
-        while !work.tasks.is_empty() {
-            match self.until_counted(work) {
-                Ok(()) => (),
-                Err(halt) => return Err(halt),
-            }
+// All tasks are done.
+pub(crate) fn run<'a>(frame: &Frame<'a, '_>, work: &mut Work<'a>) -> Result<(), Halt>
+    ensures done { OnOk result (left_of frame.now work.old ≡
+        Yields (values_of work.new.values) work.new.left) }
+    ensures halts { IfErr result (Halts (left_of frame.now work.old)) }
+{
+    while !work.tasks.is_empty() {
+        match until_counted(frame, work) {
+            Ok(()) => (),
+            Err(halt) => return Err(halt),
         }
-        Ok(())
     }
+    Ok(())
 }
 
 // A unit is begun, and the use is next.

@@ -6,26 +6,27 @@ ghost use Rattle.circ_proof.specs.Proof.{ProofFor, IsPlain};
 ghost use Rattle.circ_proof.specs.PlainProof.{plain_proof};
 ghost use Rattle.circ_proof.specs.Accepted.{Accepted};
 ghost use Rattle.circ_entry.specs.Plain.{plain_entries};
-ghost use Rattle.circ_expand.specs.Pieces.{Pieces};
-ghost use Rattle.circ_expand.specs.Expand.{Spending, expansion};
-ghost use Rattle.circ_expand.specs.Goals.{all_goals, FitGoal};
-ghost use Rattle.circ_expand.specs.Answers.{LeadsOnGoal};
-ghost use Rattle.circ_expand.specs.Machine.{worked_off};
-ghost use Rattle.circ_expand.specs.Book.{IsBook};
-ghost use Rattle.circ_expand.specs.Tasks.{WritesOut, AreFew, Halts, past_of};
-ghost use Rattle.circ_expand.specs.declared.tasks.Halt.TheVariants.{Stopped};
+ghost use Rattle.circ_expansion.specs.Pieces.{Pieces};
+ghost use Rattle.circ_expansion.specs.Expand.{Spending, expansion};
+ghost use Rattle.circ_expansion.specs.Goals.{all_goals, FitGoal};
+ghost use Rattle.circ_expansion.specs.Answers.{LeadsOnGoal};
+ghost use Rattle.circ_expansion.specs.Machine.{worked_off};
+ghost use Rattle.circ_book.specs.Book.{IsBook};
+ghost use Rattle.circ_tasks.specs.Tasks.{WritesOut, AreFew, Halts, past_of};
+ghost use Rattle.circ_tasks.specs.declared.tasks.Halt.TheVariants.{Stopped};
 ghost use Rattle.circ_term.specs.Limits.{Names};
-ghost use Rattle.circ_expand.specs.Rows.{plain_row, rows_of, unit_limit, IsWrittenOut};
+ghost use Rattle.circ_written.specs.Rows.{plain_row, rows_of, unit_limit};
+ghost use Rattle.circ_expand.specs.Outcomes.{IsWrittenOut};
 
-use crate::calls::Frame;
 use crate::fault::ExpandFault;
-use crate::meetings::Ground;
-use crate::rows::Row;
-use crate::tasks::Halt;
+use crate::opening::write_out;
+use circ_book::Ground;
 use circ_entry::Entry;
 use circ_proof::Proof;
+use circ_tasks::{Frame, Halt};
 use circ_term::TermFault;
 use circ_theory::Theory;
+use circ_written::Row;
 use std::alloc::Global;
 
 /// The derivation from the experiment on the left side of a goal, counted from 0, to that on its
@@ -108,21 +109,24 @@ fn written<'x>(
         book: &book,
         lists: proof.certificates.as_slice(),
     };
-    frame.write_proof(proof, goal, entries)
+    write_proof(&frame, proof, goal, entries)
 }
 
-impl Frame<'_, '_> {
-    // The derivation from the proof whose table, special set, certificates and book these are.
-    fn write_proof(&self, proof: &Proof, goal: u32, entries: &[Entry]) -> Result<Vec<Row>, Halt>
-        requires table { self.now.table.now ≡ proof.now.table.items }
-        requires gamma { self.now.gamma.now ≡ proof.now.gamma }
-        requires lists { self.now.lists.now ≡ proof.now.certificates.items }
-        requires book { IsBook self.now.theory.now (plain_proof proof.now) self.now.book.now }
-        requires few { AreFew entries.now }
-        ensures { WritesOut (worked_off unit_limit self.now.theory.now (plain_proof proof.now) goal
-            (plain_entries entries.now)) result }
-    {
-        let _ = proof;
-        self.write_out(goal, entries)
-    }
+// The derivation from the proof whose table, special set, certificates and book these are.
+fn write_proof(
+    frame: &Frame<'_, '_>,
+    proof: &Proof,
+    goal: u32,
+    entries: &[Entry],
+) -> Result<Vec<Row>, Halt>
+    requires table { frame.now.table.now ≡ proof.now.table.items }
+    requires gamma { frame.now.gamma.now ≡ proof.now.gamma }
+    requires lists { frame.now.lists.now ≡ proof.now.certificates.items }
+    requires book { IsBook frame.now.theory.now (plain_proof proof.now) frame.now.book.now }
+    requires few { AreFew entries.now }
+    ensures { WritesOut (worked_off unit_limit frame.now.theory.now (plain_proof proof.now) goal
+        (plain_entries entries.now)) result }
+{
+    let _ = proof;
+    write_out(frame, goal, entries)
 }

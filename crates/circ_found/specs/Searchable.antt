@@ -3,10 +3,12 @@ use Rattle.std.specs.Prelude.{List}
 use Rattle.std.specs.List.{AllByRecursion}
 use Rattle.circ_term.specs.Limits.{IsWithinLimits}
 use Rattle.circ_theory.specs.declared.parts.Goal.{Goal}
+use Rattle.circ_conditional_search.specs.ConditionalSearch.{IsPairWithin}
 
 pub record IsWithinGoal (g : Goal) : Type 0 where
   pub left : IsWithinLimits g.left
   pub right : IsWithinLimits g.right
+  pub conds : AllByRecursion IsPairWithin g.conds
 
 abbrev pub AreWithin : (blocks : List (List Goal)) → Type 0
 AreWithin blocks = AllByRecursion (λ b. AllByRecursion IsWithinGoal b) blocks

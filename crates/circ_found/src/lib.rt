@@ -3,7 +3,7 @@
 //!
 //! [`search`] searches for a proof of goals and gives how that ends, [`found_ending`] gives it for
 //! what was found, and [`differ`] looks for an experiment that tells the sides of one apart;
-//! [`searchable`] says that the goals of a script can be searched for.
+//! [`searchable`] and [`plainly_searchable`] say that the goals of a script can be searched for.
 #![tactic(auto)]
 
 mod answering;
@@ -14,5 +14,5 @@ mod texts;
 
 pub use answering::{GREATEST_DERIVES, GREATEST_STEPS, found_ending, search};
 pub use differing::differ;
-pub use script_goals::searchable;
+pub use script_goals::{plainly_searchable, searchable};
 pub use texts::push_counts;

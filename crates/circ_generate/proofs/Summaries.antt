@@ -8,20 +8,21 @@ use Rattle.circ_theory.specs.declared.parts.Goal.{Goal}
 use Rattle.circ_proof.specs.Proof.{Proof}
 use Rattle.circ_proof_text.specs.ProofText.{proof_text}
 use Rattle.circ_plain_search.specs.Numbering.{Found, Proved, LongTable, Stuck, Spent, TooBig, TooDeep}
-use Rattle.circ_plain_search.specs.PlainSearch.{PlainSearch, AreSearchable, IsProofOf}
-use Rattle.circ_plain_search.specs.Search.{Limits}
+use Rattle.circ_plain_search.specs.PlainSearch.{IsProofOf}
+use Rattle.circ_conditional_search.specs.ConditionalSearch.{ConditionalSearch, CanAllBeSearched}
+use Rattle.circ_conditional_search.specs.Search.{Manner}
 use Rattle.circ_script.specs.ReadsAsScript.{ReadsAsScript}
 use Rattle.circ_script.specs.Script.{Script}
 use Rattle.circ_script.specs.declared.job.Job.TheVariants.{Prove}
 use Rattle.circ_files.specs.Texts.{too_long_text}
-use Rattle.circ_files.specs.TheoryFile.{ReadsAsPlain}
+use Rattle.circ_read.specs.ReadsAs.{ReadsAs}
 use Rattle.circ_files.proofs.FileFaults.{if_ok}
 use Rattle.circ_files.specs.declared.status.Status.TheVariants as status
 use Rattle.circ_found.specs.Answering.{proved_text, found_ending, SearchEnds}
 use Rattle.circ_files.specs.Ending.{Stored, stored_as, Ending, ending, plain_ending}
 use Rattle.circ_files.specs.declared.ending.Ending.{Ending as TheEnding}
 use Rattle.circ_generate.specs.Chain.{chain_theory, chain_script}
-use Rattle.circ_generate.specs.Generating.{greatest_limits, summary_text, chain_ending, Generates, searched, IsAcceptedText}
+use Rattle.circ_generate.specs.Generating.{greatest_manner, summary_text, chain_ending, Generates, searched, IsAcceptedText}
 
 -- where nothing is to be stored, the summary's ending is the search's
 module _ (sig : Signature) (n : ℕ) where
@@ -83,14 +84,14 @@ pub record IsChainProof (th : Theory) (n : ℕ) (f : Found) (bytes : List ℕ) :
   pub accepted : IsAcceptedText th bytes p
   pub ends : chain_ending th.signature n f ≡ ending status.Ok (summary_text n p) None
 
-module _ (law : (th : Theory) → IsWellFormed th → (blocks : List (List Goal)) → AreSearchable th blocks → (limits : Limits) (p : Proof)
-    → PlainSearch th blocks limits (Proved p) → IsProofOf th blocks p) (th : Theory) (ok : IsWellFormed th) (sc : Script)
-    (searchable : AreSearchable th sc.blocks) (n : ℕ) (e : Ending) (s : SearchEnds th greatest_limits [] sc.blocks e) where
+module _ (law : (th : Theory) → IsWellFormed th → (blocks : List (List Goal)) → CanAllBeSearched th blocks → (manner : Manner) (p : Proof)
+    → ConditionalSearch th blocks manner (Proved p) → IsProofOf th blocks p) (th : Theory) (ok : IsWellFormed th) (sc : Script)
+    (searchable : CanAllBeSearched th sc.blocks) (n : ℕ) (e : Ending) (s : SearchEnds th greatest_manner [] sc.blocks e) where
   chain_proof : (x : Stored) → e.stored ≡ Some x → IsChainProof th n s.found x.bytes
   chain_proof x some =
       let k = stored_ending th.signature n s.found e x s.is some in
-      let P : Found → Type 0 = PlainSearch th sc.blocks greatest_limits in
-      let says = law th ok sc.blocks searchable greatest_limits k.p (subst P k.is s.search) in
+      let P : Found → Type 0 = ConditionalSearch th sc.blocks greatest_manner in
+      let says = law th ok sc.blocks searchable greatest_manner k.p (subst P k.is s.search) in
       record { p = k.p; accepted = record { text = k.text; fits = says.fits; accepted = says.accepted }; ends = k.ends }
 
   -- the text that is to be stored is that of an accepted proof
@@ -98,7 +99,7 @@ module _ (law : (th : Theory) → IsWellFormed th → (blocks : List (List Goal)
   accepted_text x bytes some same =
       let c = chain_proof x some in let P : List ℕ → Type 0 = λ b. IsAcceptedText th b c.p in (c.p, subst P (sym same) c.accepted)
 
-  module _ (rt : ReadsAsPlain (chain_theory n) th) (rs : ReadsAsScript th Prove (chain_script n) sc) where
+  module _ (rt : ReadsAs (chain_theory n) th) (rs : ReadsAsScript th Prove (chain_script n) sc) where
     pub none_generates : e.stored ≡ None → Generates n e
     none_generates none = searched e th sc s.found rt rs s.search (unstored_ending th.signature n s.found e s.is none)
 

@@ -1,5 +1,5 @@
 -- What `generate` comes to.
-use Rattle.std.specs.Prelude.{◌≡◌, ℕ, List, [], ◌++◌, length, None, nat_lt, if◌then◌else◌, codes, decimal}
+use Rattle.std.specs.Prelude.{◌≡◌, ℕ, List, [], ◌++◌, length, None, false, nat_lt, if◌then◌else◌, codes, decimal}
 use Rattle.circ_theory.specs.Signature.{Signature}
 use Rattle.circ_theory.specs.Theory.{Theory}
 use Rattle.circ_proof.specs.Accepted.{Accepted}
@@ -11,18 +11,18 @@ use Rattle.circ_script.specs.Refusing.{FirstScriptCause}
 use Rattle.circ_script.specs.Script.{Script}
 use Rattle.circ_script.specs.declared.job.Job.TheVariants.{Prove}
 use Rattle.circ_plain_search.specs.Numbering.{Found, Proved}
-use Rattle.circ_plain_search.specs.PlainSearch.{PlainSearch}
-use Rattle.circ_plain_search.specs.Search.{Limits}
+use Rattle.circ_conditional_search.specs.ConditionalSearch.{ConditionalSearch}
+use Rattle.circ_conditional_search.specs.Search.{Manner}
 use Rattle.circ_files.specs.Texts.{too_long_text, unreadable_text}
-use Rattle.circ_files.specs.TheoryFile.{ReadsAsPlain, PlainTheoryRefusal}
+use Rattle.circ_read.specs.ReadsAs.{ReadsAs, FirstCause}
 use Rattle.circ_files.specs.declared.status.Status.TheVariants as status
 use Rattle.circ_found.specs.Answering.{counts_text, derives_in, found_ending}
 use Rattle.circ_files.specs.Ending.{Ending, ending}
 use Rattle.circ_generate.specs.Chain.{chain_theory, chain_script}
 
--- the most that a search may be given
-abbrev pub greatest_limits : Limits
-greatest_limits = record { steps = 1000000; derives = 10000 }
+-- the search with the greatest budgets, in which no hidden goal is split
+abbrev pub greatest_manner : Manner
+greatest_manner = record { limits = record { steps = 1000000; derives = 10000 }; split = false }
 
 -- what is printed of the proof of a chain
 abbrev pub summary_text : ℕ → Proof → List ℕ
@@ -43,14 +43,14 @@ chain_ending sig n f = found_ending sig [] f
 abbrev pub unread_ending : (file place : ℕ) → Cause → Ending
 unread_ending file place c = ending (status.Unreadable file place c) (unreadable_text (codes ", statement ") file place c) None
 
--- The chain's theory text is refused as that of a search is; or it reads, and the script is refused for its first cause; or both read, and the search of the script's goals, with the
--- greatest limits, ends so.
+-- The chain's theory text is refused for its first cause; or it reads, and the script is refused for its first cause; or both read, and the search of the
+-- script's goals, with the greatest budgets, ends so.
 pub data Generates (n : ℕ) : Ending → Type 0 where
-  no_theory : (e : Ending) (place : ℕ) (c : Cause) → PlainTheoryRefusal place c (chain_theory n) → e ≡ unread_ending 1 place c → Generates n e
-  no_script : (e : Ending) (th : Theory) (place : ℕ) (c : Cause) → ReadsAsPlain (chain_theory n) th → FirstScriptCause th Prove (chain_script n) place c
+  no_theory : (e : Ending) (place : ℕ) (c : Cause) → FirstCause (chain_theory n) place c → e ≡ unread_ending 1 place c → Generates n e
+  no_script : (e : Ending) (th : Theory) (place : ℕ) (c : Cause) → ReadsAs (chain_theory n) th → FirstScriptCause th Prove (chain_script n) place c
       → e ≡ unread_ending 2 place c → Generates n e
-  searched : (e : Ending) (th : Theory) (sc : Script) (f : Found) → ReadsAsPlain (chain_theory n) th → ReadsAsScript th Prove (chain_script n) sc
-      → PlainSearch th sc.blocks greatest_limits f → e ≡ chain_ending th.signature n f → Generates n e
+  searched : (e : Ending) (th : Theory) (sc : Script) (f : Found) → ReadsAs (chain_theory n) th → ReadsAsScript th Prove (chain_script n) sc
+      → ConditionalSearch th sc.blocks greatest_manner f → e ≡ chain_ending th.signature n f → Generates n e
 
 -- The bytes are the text of an accepted proof.
 pub record IsAcceptedText (th : Theory) (bytes : List ℕ) (p : Proof) : Type 0 where

@@ -1,14 +1,12 @@
 //! What comes of a chain.
-ghost use Rattle.std.specs.Prelude.{◌≡◌, ◌≤◌, None, IfOk, codes};
+ghost use Rattle.std.specs.Prelude.{◌≡◌, ◌≤◌, None, IfOk};
 ghost use Rattle.circ_proof.specs.PlainProof.{plain_proof};
 ghost use Rattle.circ_proof.specs.Proof.{Proof as PlainProof, steps_in};
 ghost use Rattle.circ_read.specs.ReadsAs.{ReadsAs};
-ghost use Rattle.circ_read.specs.declared.cause.Cause.TheVariants as cause;
 ghost use Rattle.circ_script.specs.ReadsAsScript.{ReadsAsScript};
 ghost use Rattle.circ_script.specs.Script.{plain_script};
 ghost use Rattle.circ_script.specs.declared.job.Job.TheVariants.{Prove};
 ghost use Rattle.circ_files.specs.declared.status.Status.TheVariants as status;
-ghost use Rattle.circ_files.specs.TheoryFile.{ReadsAsPlain};
 ghost use Rattle.circ_files.specs.Ending.{ending, plain_ending};
 ghost use Rattle.circ_generate.specs.Chain.{chain_theory, chain_script};
 ghost use Rattle.circ_generate.specs.Generating.{Generates, IsAcceptedText, unread_ending};
@@ -16,12 +14,11 @@ ghost use Rattle.circ_generate.specs.Generating.{summary_text};
 
 use crate::chain::{chain_script, chain_theory};
 use circ_check::{Verdict, check};
+use circ_conditional_search::laws::proved_is_accepted;
 use circ_file::laws::texts_decode;
 use circ_file::{FileFault, decode};
 use circ_files::{Ending, SCRIPT_FILE, Status, THEORY_FILE, push_counted, push_unreadable};
-use circ_form::Text;
 use circ_found::{GREATEST_DERIVES, GREATEST_STEPS, push_counts, search, searchable};
-use circ_plain_search::laws::proved_is_accepted;
 use circ_proof::Proof;
 use circ_read::{Cause, ReadFault, read_theory};
 use circ_script::laws::scripts_are_fit;
@@ -44,7 +41,7 @@ fn chain<'a>(alloc: Global, number: u64) -> Result<Ending<'a>, AllocError>
 {
     let text = chain_theory(alloc, number)?;
     match read_theory(alloc, text.as_slice()) {
-        Ok(mut theory) => of_theory(alloc, number, &mut theory),
+        Ok(mut theory) => with_theory(alloc, number, &mut theory),
         Err(
             ReadFault::Statement {
                 number: place,
@@ -55,32 +52,13 @@ fn chain<'a>(alloc: Global, number: u64) -> Result<Ending<'a>, AllocError>
     }
 }
 
-/// What is answered where the theory has conditions, which the search leaves out.
-fn conditional<'a>(alloc: Global) -> Result<Ending<'a>, AllocError>
-    ensures { IfOk result (λ e. plain_ending e ≡ unread_ending 1 0 (cause.LeftOut (codes "ceq"))) }
-{
-    let word = Text::of(alloc, b"ceq")?;
-    unread(alloc, THEORY_FILE, 0, Cause::LeftOut { word })
-}
-
-fn of_theory<'a>(alloc: Global, number: u64, theory: &mut Theory) -> Result<Ending<'a>, AllocError>
-    requires most { number ≤ 65535 }
-    requires reads { ReadsAs (chain_theory number) theory.old }
-    ensures { IfOk result (λ e. Generates number (plain_ending e)) }
-{
-    if theory.has_conditions() {
-        return conditional(alloc);
-    }
-    with_theory(alloc, number, theory)
-}
-
 fn with_theory<'a>(
     alloc: Global,
     number: u64,
     theory: &mut Theory,
 ) -> Result<Ending<'a>, AllocError>
     requires most { number ≤ 65535 }
-    requires reads { ReadsAsPlain (chain_theory number) theory.old }
+    requires reads { ReadsAs (chain_theory number) theory.old }
     ensures { IfOk result (λ e. Generates number (plain_ending e)) }
 {
     let text = chain_script(alloc, number)?;
@@ -102,7 +80,7 @@ fn with_script<'a>(
     theory: &Theory,
     script: &Script,
 ) -> Result<Ending<'a>, AllocError>
-    requires theory { ReadsAsPlain (chain_theory number) theory.now }
+    requires theory { ReadsAs (chain_theory number) theory.now }
     requires script { ReadsAsScript theory.now Prove (chain_script number)
         (plain_script script.now) }
     ensures { IfOk result (λ e. Generates number (plain_ending e)) }
@@ -114,6 +92,7 @@ fn with_script<'a>(
     let limits = Limits {
         steps: GREATEST_STEPS,
         derives: GREATEST_DERIVES,
+        split: false,
     };
     let Ending {
         status,

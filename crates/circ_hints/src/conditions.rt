@@ -1,4 +1,4 @@
-//! The conditions of an equation, one by one.
+//! The conditions of an equation or a goal, one by one.
 use crate::declared::{declared_before, push_range, read_ended};
 use crate::parts::{Part, is, next, outside};
 use crate::unreadable_hint::Source;
@@ -6,8 +6,18 @@ use circ_lexer::Tokens;
 use circ_read::{Cause, ReadFault};
 use std::alloc::{AllocError, Global};
 
-/// As many conditions as an equation has at most.
+/// As many conditions as an equation or a goal has at most.
 pub(crate) const MOST_CONDITIONS: usize = 8;
+
+/// Whether a part is an equation or a goal with conditions.
+pub(crate) fn has_conditions(tokens: &Tokens<'_>, part: Part) -> bool {
+    is(tokens, part.from, b"ceq") || is_conditional_goal(tokens, part)
+}
+
+/// Whether an item begins as a goal with conditions.
+pub(crate) fn is_conditional_goal(tokens: &Tokens<'_>, part: Part) -> bool {
+    is(tokens, part.from, b"add") && is(tokens, part.nth(1), b"cgoal")
+}
 
 /// Where the terms of a statement end: at the mark `[ nonexec ]`, or at the stop.
 pub(crate) fn behind_terms(tokens: &Tokens<'_>, part: Part) -> usize {
@@ -47,7 +57,8 @@ pub(crate) fn hidden_condition(
     Ok(condition)
 }
 
-/// Whether a condition is of a hidden sort, of those of a statement before a token.
+/// Whether a condition is of a hidden sort, of those of a statement before a token. Those of a goal
+/// are read as an equation's.
 fn is_hidden(
     alloc: Global,
     source: &Source<'_>,
@@ -56,7 +67,12 @@ fn is_hidden(
     end: usize,
 ) -> Result<bool, AllocError> {
     let mut text = declared_before(alloc, source, tokens, part)?;
-    push_range(&mut text, source.bytes, tokens, part.from, end)?;
+    let mut begin = part.from;
+    if is_conditional_goal(tokens, part) {
+        text.extend_from_slice(b"ceq ")?;
+        begin = part.nth(2);
+    }
+    push_range(&mut text, source.bytes, tokens, begin, end)?;
     text.push(b'.')?;
     match read_ended(alloc, text) {
         Ok(_) => Ok(false),

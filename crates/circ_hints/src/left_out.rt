@@ -3,9 +3,9 @@ use crate::marks::Mark;
 use crate::parts::{Part, first, is};
 use circ_lexer::Tokens;
 
-/// What is said of conditions where a search takes none.
+/// What is said of conditions where a command takes none.
 const NO_CONDITIONS: &str =
-    "`prove`, `trace` and `differ` do not take conditions yet: write equations with values (docs/from-circ-and-maude.md)";
+    "`differ` does not take conditions: write equations with values (docs/from-circ-and-maude.md)";
 
 /// The mark of a word that is left out: in the statement, or in the whole text if it has no number.
 pub(crate) fn left_out(tokens: &Tokens<'_>, part: Part, number: u64, word: &[u8]) -> Mark {

@@ -1,4 +1,5 @@
 //! The words that begin statements and items.
+use crate::conditions::is_conditional_goal;
 use crate::parts::{Part, first, is};
 use circ_lexer::Tokens;
 
@@ -43,8 +44,11 @@ pub(crate) fn says_of_conditions(
     if first(tokens, number, part.to, b"then").is_some() {
         return None;
     }
+    if is_conditional_goal(tokens, part) {
+        return None;
+    }
     if is(tokens, part.from, b"add") {
-        return Some("a goal of a script has no conditions");
+        return Some("a goal with conditions begins with `add cgoal`");
     }
     if is(tokens, part.from, b"eq") {
         return Some("an equation with conditions begins with `ceq`");

@@ -1,5 +1,5 @@
 //! How far a term reads.
-use crate::conditions::{MOST_CONDITIONS, behind_terms};
+use crate::conditions::{MOST_CONDITIONS, behind_terms, has_conditions};
 use crate::declared::{declared_before, read_ended};
 use crate::marks::Mark;
 use crate::parts::{Part, first, is, next, outside};
@@ -48,7 +48,7 @@ pub(crate) fn unread_behind(
         hole: is(tokens, part.from, b"derivative"),
     };
     let end = behind_terms(tokens, part);
-    if is(tokens, part.from, b"ceq") {
+    if has_conditions(tokens, part) {
         reader.unread_conditional(from, end)
     } else {
         reader.unread_pair(from, end)

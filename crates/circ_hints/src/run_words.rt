@@ -165,9 +165,12 @@ fn is_option(word: &str) -> bool {
     word.len() > 1 && word.as_bytes().starts_with(b"-")
 }
 
-/// Whether there is an option of this word.
+/// Whether there is an option or a flag of this word.
 fn is_known(word: &str) -> bool {
-    takes_value(word) || word.starts_with("--steps=") || word.starts_with("--derives=")
+    takes_value(word)
+        || word == "--split"
+        || word.starts_with("--steps=")
+        || word.starts_with("--derives=")
 }
 
 /// Whether an option is followed by its value.

@@ -1,7 +1,7 @@
 //! Where an item of a script leaves its form, and what was expected there.
 use crate::marks::Mark;
 use crate::parts::{Part, first, is, next};
-use crate::shapes::{equation, glued_stop};
+use crate::shapes::{conditional, equation, glued_stop};
 use crate::signatures::variables;
 use crate::unreadable_hint::SourceKind;
 use circ_lexer::Tokens;
@@ -69,16 +69,21 @@ fn unpaired(part: Part) -> Mark {
     Mark::at(part.from, "parentheses round an item come in pairs")
 }
 
+/// The form of a goal with conditions.
+const CONDITIONAL_GOAL: &str =
+    "a goal with conditions, not for `differ`, is `add cgoal TERM = TERM if TERM = TERM /\\ .. .`";
+
 /// The mark of a goal.
 fn goal(tokens: &Tokens<'_>, part: Part) -> Mark {
-    if is(tokens, part.nth(1), b"cgoal") {
-        return Mark::at(part.nth(1), "a goal of a script has no conditions");
-    }
-    if !is(tokens, part.nth(1), b"goal") {
-        return Mark::at(part.nth(1), "`goal` is expected here");
+    let has_conditions = is(tokens, part.nth(1), b"cgoal");
+    if !has_conditions && !is(tokens, part.nth(1), b"goal") {
+        return Mark::at(part.nth(1), "`goal` or `cgoal` is expected here");
     }
     if let Some(number) = next_item(tokens, part) {
         return Mark::behind(number.saturating_sub(1), "` .` is expected here");
+    }
+    if has_conditions {
+        return conditional(tokens, part, CONDITIONAL_GOAL);
     }
     if has_one_sign(tokens, part) {
         return unpaired(part);

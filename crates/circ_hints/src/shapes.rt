@@ -148,7 +148,11 @@ fn by_word(tokens: &Tokens<'_>, part: Part) -> Mark {
         Some(b"op" | b"ops") => operator(tokens, part),
         Some(b"var" | b"vars") => variables(tokens, part),
         Some(b"eq") => equation(tokens, part),
-        Some(b"ceq") => conditional(tokens, part),
+        Some(b"ceq") => conditional(
+            tokens,
+            part,
+            "a conditional equation is `ceq TERM = TERM if TERM = TERM /\\ .. .`",
+        ),
         Some(b"cases") => cases(tokens, part),
         _ => one_name(tokens, part),
     }
@@ -222,8 +226,8 @@ fn is_order(token: &[u8]) -> bool {
     }
 }
 
-/// The mark of an equation with conditions.
-fn conditional(tokens: &Tokens<'_>, part: Part) -> Mark {
+/// The mark of an equation or a goal with conditions, which has this form.
+pub(crate) fn conditional(tokens: &Tokens<'_>, part: Part, form: &'static str) -> Mark {
     let Some(number) = outside(tokens, part.from, part.to, b"if") else {
         return Mark::behind(
             part.to.saturating_sub(1),
@@ -232,10 +236,7 @@ fn conditional(tokens: &Tokens<'_>, part: Part) -> Mark {
     };
     match glued_sign(tokens, part) {
         Some(mark) => mark,
-        None => Mark::at(
-            number,
-            "a conditional equation is `ceq TERM = TERM if TERM = TERM /\\ .. .`",
-        ),
+        None => Mark::at(number, form),
     }
 }
 

@@ -1,4 +1,5 @@
 //! Which token of a term that does not read is the likely cause.
+use crate::conditions::has_conditions;
 use crate::drawing::rest_from;
 use crate::known::{Known, Wanted};
 use crate::marks::Mark;
@@ -18,7 +19,7 @@ pub(crate) const NO_TERM: &str =
 struct Names<'a> {
     words: Known<'a>,
     sorts: Known<'a>,
-    /// Whether the part is an equation with conditions.
+    /// Whether the part is an equation or a goal with conditions.
     has_conditions: bool,
 }
 
@@ -35,7 +36,7 @@ pub(crate) fn unread_word<'a>(
     let names = Names {
         words: Known::before(alloc, Wanted::Words, source, tokens, part.from)?,
         sorts: Known::before(alloc, Wanted::Sorts, source, tokens, part.from)?,
-        has_conditions: is(tokens, part.from, b"ceq"),
+        has_conditions: has_conditions(tokens, part),
     };
     if let Some(number) = names.undeclared(tokens, from, part.to) {
         let says = says_of_word(tokens, part, number, &names);

@@ -1,7 +1,7 @@
 -- Join in steps.
-use Rattle.std.proofs.Common.{◌≡◌, ◌≢◌, ◌↔◌, ◌≤◌, ◌<◌, ℕ, suc, ◌+◌, ◌-◌, length, Bool, true, false, ◌==◌, ◌&&◌, if◌then◌else◌, List, [], ◌∷◌, ◌++◌, drop, take, get_or, Option, Some, None, Ok, refl, ap, sym, subst, ◌∙◌, arith, append_assoc, length-append}
+use Rattle.std.proofs.Common.{◌≡◌, ◌↔◌, ◌≤◌, ◌<◌, ℕ, zero, suc, ◌+◌, ◌-◌, length, Bool, true, false, ◌==◌, ◌&&◌, if◌then◌else◌, List, [], ◌∷◌, ◌++◌, drop, get_or, Option, Some, None, Ok, refl, ap, sym, subst, ◌∙◌, append_assoc, arith}
 use Rattle.std.specs.Prelude.{IsTrue}
-use Rattle.std.specs.Option.{option_map}
+use Rattle.std.proofs.lemmas.Bool.{eqb-true}
 use Rattle.std.proofs.lemmas.List.{drop_all}
 use Rattle.circ_term.specs.Tree.{Tree, Trees, Var, App, trees_of}
 use Rattle.circ_term.specs.Order.{is_same}
@@ -10,141 +10,238 @@ use Rattle.circ_term.proofs.Within.{drop_read}
 use Rattle.circ_theory.specs.declared.parts.Goal.{Goal}
 use Rattle.circ_special.specs.declared.place.Place.{Place}
 use Rattle.circ_aci.proofs.Finding.{told_same}
-use Rattle.circ_plain_search.specs.Joining.{HypothesisUse, first_use, beside, joined, all_joined, is_place}
-use Rattle.circ_join.specs.Uses.{Joins}
+use Rattle.circ_rewrite.specs.declared.fault.RewriteFault.{RewriteFault}
+use Rattle.circ_rewrite.specs.declared.fault.RewriteFault.TheVariants.{Spent, TooBig, TooDeep, Memory}
+use Rattle.circ_conditional_norm.specs.Tries.{Normaliser}
+use Rattle.circ_conditional_norm.specs.Work.{Work, Made, Out, Past, or_next, map_found}
+use Rattle.circ_tries.specs.Trying.{Hinders}
+use Rattle.circ_tries.proofs.Faulting.{hinders_map, hinders_next, hinders_same}
+use Rattle.circ_plain_search.specs.Joining.{HypothesisUse, is_place}
+use Rattle.circ_conditional_search.specs.Joining.{first_use_trying, meets_trying, beside_trying, found_then, joined_trying, all_joined_trying, no_join}
+use Rattle.circ_join.specs.Trying.{Joins, inside_trying, beside_alone}
 
-pub joined_same : (G : List Place) (H : List Goal) (q : List ℕ) (a b : Tree) → a ≡ b → joined G H q a b ≡ Some []
-joined_same G H q a b e = let P : Tree → Type 0 = λ x. joined G H q a x ≡ Some [] in subst P e (go a)
-  where
-    go : (t : Tree) → joined G H q t t ≡ Some []
-    go (Var n s) = let z = same_itself (Var n s) in rw z refl
-    go (App f s ts) = let z = same_itself (App f s ts) in rw z refl
+-- ---- lists
+
+pub nil_right : {X : Type 0} (ys : List X) → ys ++ [] ≡ ys
+nil_right [] = refl
+nil_right (y ∷ ys) = ap (λ r. y ∷ r) (nil_right ys)
 
 -- the answer of `same` was no
 pub not_same : (r : Bool) (t u : Tree) → IsTrue r ↔ (t ≡ u) → r ≡ false → is_same t u ≡ false
 not_same r t u e f = sym (told_same t u r e) ∙ f
 
-pub joined_used : (G : List Place) (H : List Goal) (q : List ℕ) (a b : Tree) (j : HypothesisUse) → is_same a b ≡ false → first_use 0 H q a b ≡ Some j → joined G H q a b ≡ Some (j ∷ [])
-joined_used G H q (Var n s) b j e u = rw (e, u) refl
-joined_used G H q (App f s ts) (Var m k) j e u = rw u refl
-joined_used G H q (App f s ts) (App g k us) j e u = rw (e, u) refl
+-- the answer of `same` was yes
+pub is_same_at : (t u : Tree) → t ≡ u → is_same t u ≡ true
+is_same_at t u e = subst (λ x. is_same t x ≡ true) e (same_itself t)
 
-pub joined_inside : (G : List Place) (H : List Goal) (q : List ℕ) (a b : Tree) (f s g k : ℕ) (ts us : Trees) → App f s ts ≡ a → App g k us ≡ b
-    → is_same a b ≡ false → first_use 0 H q a b ≡ None → joined G H q a b ≡ (if (f == g) && (s == k) then all_joined G H f q 0 ts us else None)
-joined_inside G H q a b f s g k ts us ea eb e u =
-    let P : Tree → Tree → Type 0 = λ x y. is_same x y ≡ false → first_use 0 H q x y ≡ None → joined G H q x y ≡ (if (f == g) && (s == k) then all_joined G H f q 0 ts us else None) in
-    let base : P (App f s ts) (App g k us) = λ z v. rw (z, v) refl in
-    let one : P (App f s ts) b = subst (P (App f s ts)) eb base in
-    (let Q : Tree → Type 0 = λ x. P x b in subst Q ea one) e u
+-- ---- work that finds something
 
-pub joined_all : (G : List Place) (H : List Goal) (q : List ℕ) (a b : Tree) (f s g k : ℕ) (ts us : Trees) → App f s ts ≡ a → App g k us ≡ b
-    → is_same a b ≡ false → first_use 0 H q a b ≡ None → f ≡ g → s ≡ k → joined G H q a b ≡ all_joined G H f q 0 ts us
-joined_all G H q a b f s g k ts us ea eb e u fg sk =
-    let t : ((f == g) && (s == k)) ≡ true = grind (arith, fg, sk) in
-    joined_inside G H q a b f s g k ts us ea eb e u ∙ ap (λ x. if x then all_joined G H f q 0 ts us else None) t
+-- the work as it is, with these uses before those that it finds
+abbrev pub behind : List HypothesisUse → Work (Option (List HypothesisUse)) → Work (Option (List HypothesisUse))
+behind us w = map_found (λ vs. us ++ vs) w
 
-beside_none : (v p : Bool) (one : Option (List HypothesisUse)) → beside v p one None ≡ None
-beside_none true p one = refl
-beside_none false false one = refl
-beside_none false true None = refl
-beside_none false true (Some js) = refl
+pub behind_nothing : (w : Work (Option (List HypothesisUse))) → behind [] w ≡ w
+behind_nothing (Made (Some us) k) = refl
+behind_nothing (Made None k) = refl
+behind_nothing Out = refl
+behind_nothing (Past x k) = refl
 
--- rows of two lengths do not join
-pub all_joined_lengths : (G : List Place) (H : List Goal) (f : ℕ) (q : List ℕ) (i : ℕ) (ts us : List Tree) → length ts ≢ length us → all_joined G H f q i (trees_of ts) (trees_of us) ≡ None
-all_joined_lengths G H f q i [] [] n = absurd (n refl)
-all_joined_lengths G H f q i [] (u ∷ us) n = refl
-all_joined_lengths G H f q i (t ∷ ts) [] n = refl
-all_joined_lengths G H f q i (t ∷ ts) (u ∷ us) n =
-    let r = all_joined_lengths G H f q (i + 1) ts us (λ e. n (ap suc e)) in
-    ap (beside (is_same t u) (is_place G f i) (joined G H (q ++ i ∷ []) t u)) r ∙ beside_none (is_same t u) (is_place G f i) (joined G H (q ++ i ∷ []) t u)
+pub behind_both : (us vs : List HypothesisUse) (w : Work (Option (List HypothesisUse))) → behind us (behind vs w) ≡ behind (us ++ vs) w
+behind_both us vs (Made (Some ws) k) = ap (λ x. Made (Some x) k) (sym (append_assoc us vs ws))
+behind_both us vs (Made None k) = refl
+behind_both us vs Out = refl
+behind_both us vs (Past x k) = refl
 
-abbrev pub row_at : List Place → List Goal → ℕ → List ℕ → List Tree → List Tree → ℕ → Option (List HypothesisUse)
-row_at G H f q ts us i = all_joined G H f q i (trees_of (drop i ts)) (trees_of (drop i us))
+hinders_then : {A B : Type 0} (f : A → ℕ → Work (Option B)) (e : RewriteFault) (l : ℕ) (w : Work (Option A)) → Hinders e l w → Hinders e l (found_then w f)
+hinders_then f Spent l w h = (ap (λ x. found_then x f) h.0, h.1)
+hinders_then f (TooBig n) l w h = ap (λ x. found_then x f) h
+hinders_then f (TooDeep n) l w h = ap (λ x. found_then x f) h
+hinders_then f Memory l w h = tt
 
--- the arguments before place i have joined
-pub record Going (G : List Place) (H : List Goal) (f : ℕ) (q : List ℕ) (ts us : List Tree) (old cur : List HypothesisUse) (i : ℕ) : Type 0 where
-  pub same_length : length ts ≡ length us
-  pub js : List HypothesisUse
-  pub made : cur ≡ old ++ js
-  pub rest : all_joined G H f q 0 (trees_of ts) (trees_of us) ≡ option_map (λ ks. js ++ ks) (row_at G H f q ts us i)
+-- ---- one argument
 
-pub going_start : (G : List Place) (H : List Goal) (f : ℕ) (q : List ℕ) (ts us : List Tree) (old : List HypothesisUse) → length ts ≡ length us → Going G H f q ts us old old 0
-going_start G H f q ts us old e = record { same_length = e; js = []; made = sym (nil_right old); rest = go (all_joined G H f q 0 (trees_of ts) (trees_of us)) }
+pub beside_not : (same at_place : Bool) (one : ℕ → Work (Option (List HypothesisUse))) (k : ℕ) → same ≡ false → at_place ≡ false → beside_alone same at_place one k ≡ Made None k
+beside_not same at_place one k e d = ap (λ v. beside_alone v at_place one k) e ∙ ap (λ v. beside_alone false v one k) d
+
+pub beside_joins : (same at_place : Bool) (one : ℕ → Work (Option (List HypothesisUse))) (k : ℕ) → same ≡ false → at_place ≡ true → beside_alone same at_place one k ≡ one k
+beside_joins same at_place one k e d = ap (λ v. beside_alone v at_place one k) e ∙ ap (λ v. beside_alone false v one k) d
+
+-- ---- two operators that differ
+
+pub differ_first : (a b : ℕ) (v : Bool) → (a ≡ b → ⊥) → ((a == b) && v) ≡ false
+differ_first a b v h = go (a == b) refl
   where
-    nil_right : (ys : List HypothesisUse) → ys ++ [] ≡ ys
-    nil_right [] = refl
-    nil_right (y ∷ ys) = ap (λ r. y ∷ r) (nil_right ys)
+    go : (r : Bool) → (a == b) ≡ r → (r && v) ≡ false
+    go true e = absurd (h (eqb-true a b e))
+    go false e = refl
 
-    go : (o : Option (List HypothesisUse)) → o ≡ option_map (λ ks. [] ++ ks) o
-    go None = refl
-    go (Some x) = refl
-
-row_read : (G : List Place) (H : List Goal) (f : ℕ) (q : List ℕ) (ts us : List Tree) (i : ℕ) (t u : Tree) → i < length ts → i < length us → t ≡ get_or ts i t → u ≡ get_or us i u
-    → row_at G H f q ts us i ≡ beside (is_same t u) (is_place G f i) (joined G H (q ++ i ∷ []) t u) (row_at G H f q ts us (i + 1))
-row_read G H f q ts us i t u h k a b = rw (drop_read ts i t h a, drop_read us i u k b) refl
-
-pub going_same : (G : List Place) (H : List Goal) (f : ℕ) (q : List ℕ) (ts us : List Tree) (old cur : List HypothesisUse) (i : ℕ) (t u : Tree) → Going G H f q ts us old cur i
-    → i < length ts → t ≡ get_or ts i t → u ≡ get_or us i u → t ≡ u → Going G H f q ts us old cur (i + 1)
-going_same G H f q ts us old cur i t u g h a b e =
-    let k : i < length us = omega (arith, h, g.same_length) in
-    let P : Tree → Type 0 = λ x. is_same t x ≡ true in
-    let s : is_same t u ≡ true = subst P e (same_itself t) in
-    let r = row_read G H f q ts us i t u h k a b in
-    let z = rw s at r in
-    record { same_length = g.same_length; js = g.js; made = g.made; rest = g.rest ∙ ap (option_map (λ ks. g.js ++ ks)) z }
-
-pub going_no_place : (G : List Place) (H : List Goal) (f : ℕ) (q : List ℕ) (ts us : List Tree) (old cur : List HypothesisUse) (i : ℕ) (t u : Tree) → Going G H f q ts us old cur i
-    → i < length ts → t ≡ get_or ts i t → u ≡ get_or us i u → is_same t u ≡ false → is_place G f i ≡ false → all_joined G H f q 0 (trees_of ts) (trees_of us) ≡ None
-going_no_place G H f q ts us old cur i t u g h a b s p =
-    let k : i < length us = omega (arith, h, g.same_length) in
-    let r = row_read G H f q ts us i t u h k a b in
-    let z = rw (s, p) at r in
-    g.rest ∙ ap (option_map (λ ks. g.js ++ ks)) z
-
-pub going_none : (G : List Place) (H : List Goal) (f : ℕ) (q : List ℕ) (ts us : List Tree) (old cur : List HypothesisUse) (i : ℕ) (t u : Tree) → Going G H f q ts us old cur i
-    → i < length ts → t ≡ get_or ts i t → u ≡ get_or us i u → is_same t u ≡ false → is_place G f i ≡ true → joined G H (q ++ i ∷ []) t u ≡ None → all_joined G H f q 0 (trees_of ts) (trees_of us) ≡ None
-going_none G H f q ts us old cur i t u g h a b s p n =
-    let k : i < length us = omega (arith, h, g.same_length) in
-    let r = row_read G H f q ts us i t u h k a b in
-    let z = rw (s, p, n) at r in
-    g.rest ∙ ap (option_map (λ ks. g.js ++ ks)) z
-
-pub going_on : (G : List Place) (H : List Goal) (f : ℕ) (q : List ℕ) (ts us : List Tree) (old cur new : List HypothesisUse) (i : ℕ) (t u : Tree) → Going G H f q ts us old cur i
-    → i < length ts → t ≡ get_or ts i t → u ≡ get_or us i u → is_same t u ≡ false → is_place G f i ≡ true
-    → ((ks : List HypothesisUse) × (joined G H (q ++ i ∷ []) t u ≡ Some ks) × (new ≡ cur ++ ks)) → Going G H f q ts us old new (i + 1)
-going_on G H f q ts us old cur new i t u g h a b s p j =
-    let k : i < length us = omega (arith, h, g.same_length) in
-    let r = row_read G H f q ts us i t u h k a b in
-    let z = rw (s, p, j.1) at r in
-    record {
-      same_length = g.same_length;
-      js = g.js ++ j.0;
-      made = j.2 ∙ ap (λ x. x ++ j.0) g.made ∙ append_assoc old g.js j.0;
-      rest = g.rest ∙ ap (option_map (λ ks. g.js ++ ks)) z ∙ go (row_at G H f q ts us (i + 1));
-    }
+pub differ_second : (u : Bool) (a b : ℕ) → (a ≡ b → ⊥) → (u && (a == b)) ≡ false
+differ_second false a b h = refl
+differ_second true a b h = go (a == b) refl
   where
-    go : (o : Option (List HypothesisUse)) → option_map (λ ks. g.js ++ ks) (beside false true (Some j.0) o) ≡ option_map (λ ks. (g.js ++ j.0) ++ ks) o
-    go None = refl
-    go (Some m) = ap Some (sym (append_assoc g.js j.0 m))
+    go : (r : Bool) → (a == b) ≡ r → (a == b) ≡ false
+    go true e = absurd (h (eqb-true a b e))
+    go false e = e
 
-pub nil_joints : (ys : List HypothesisUse) → ys ≡ ys ++ []
-nil_joints [] = refl
-nil_joints (y ∷ ys) = ap (λ r. y ∷ r) (nil_joints ys)
+-- ---- two terms
 
-pub going_end : (E : Type 0) (G : List Place) (H : List Goal) (f : ℕ) (q : List ℕ) (ts us : List Tree) (old cur : List HypothesisUse) (i : ℕ) → Going G H f q ts us old cur i → length ts ≤ i
-    → Joins {E = E} (all_joined G H f q 0 (trees_of ts) (trees_of us)) old cur (Ok true)
-going_end E G H f q ts us old cur i g h =
-    let k : length us ≤ i = omega (arith, h, g.same_length) in
-    let z = rw (drop_all i ts h, drop_all i us k) at g.rest in
-    (g.js, z ∙ ap Some (nil_right g.js), g.made)
-  where
-    nil_right : (ys : List HypothesisUse) → ys ++ [] ≡ ys
-    nil_right [] = refl
-    nil_right (y ∷ ys) = ap (λ r. y ∷ r) (nil_right ys)
+module _ (f : Normaliser) (G : List Place) (H : List Goal) where
+  pub joined_meets : (q : List ℕ) (a b : Tree) (k : ℕ)
+      → joined_trying f G H q a b k ≡ meets_trying (is_same a b) (first_use_trying f 0 H q a b) (inside_trying f G H q a b) k
+  joined_meets q (Var n s) b k = refl
+  joined_meets q (App g s ts) (Var m j) k = refl
+  joined_meets q (App g s ts) (App h j us) k = refl
 
-pub take_front : (q : List ℕ) (i : ℕ) → take (length (q ++ i ∷ []) - 1) (q ++ i ∷ []) ≡ q
-take_front q i = ap (λ n. take n (q ++ i ∷ [])) (let e : length (q ++ i ∷ []) - 1 ≡ length q = omega (arith, length-append q (i ∷ [])) in e) ∙ front q
-  where
-    front : (us : List ℕ) → take (length us) (us ++ i ∷ []) ≡ us
-    front [] = refl
-    front (u ∷ us) = ap (λ r. u ∷ r) (front us)
+  pub joined_same : (q : List ℕ) (a b : Tree) (k : ℕ) → a ≡ b → joined_trying f G H q a b k ≡ Made (Some []) k
+  joined_same q a b k e =
+      joined_meets q a b k ∙ ap (λ v. meets_trying v (first_use_trying f 0 H q a b) (inside_trying f G H q a b) k) (is_same_at a b e)
+
+  differ : (q : List ℕ) (a b : Tree) (k : ℕ) → is_same a b ≡ false
+      → joined_trying f G H q a b k ≡ or_next (map_found (λ u. u ∷ []) (first_use_trying f 0 H q a b k)) (inside_trying f G H q a b)
+  differ q a b k e =
+      joined_meets q a b k ∙ ap (λ v. meets_trying v (first_use_trying f 0 H q a b) (inside_trying f G H q a b) k) e
+
+  pub joined_used : (q : List ℕ) (a b : Tree) (k l : ℕ) (u : HypothesisUse) → is_same a b ≡ false → first_use_trying f 0 H q a b k ≡ Made (Some u) l
+      → joined_trying f G H q a b k ≡ Made (Some (u ∷ [])) l
+  joined_used q a b k l u e first =
+      differ q a b k e ∙ ap (λ w. or_next (map_found (λ x. x ∷ []) w) (inside_trying f G H q a b)) first
+
+  pub joined_inside : (q : List ℕ) (a b : Tree) (k l : ℕ) → is_same a b ≡ false → first_use_trying f 0 H q a b k ≡ Made None l
+      → joined_trying f G H q a b k ≡ inside_trying f G H q a b l
+  joined_inside q a b k l e first =
+      differ q a b k e ∙ ap (λ w. or_next (map_found (λ x. x ∷ []) w) (inside_trying f G H q a b)) first
+
+  pub joined_hindered : (q : List ℕ) (a b : Tree) (k l : ℕ) (e : RewriteFault) → is_same a b ≡ false → Hinders e l (first_use_trying f 0 H q a b k)
+      → Hinders e l (joined_trying f G H q a b k)
+  joined_hindered q a b k l e s h =
+      hinders_same e l (joined_trying f G H q a b k) (or_next (map_found (λ x. x ∷ []) (first_use_trying f 0 H q a b k)) (inside_trying f G H q a b))
+      (differ q a b k s)
+      (hinders_next (inside_trying f G H q a b) e l (map_found (λ x. x ∷ []) (first_use_trying f 0 H q a b k))
+      (hinders_map (λ x. x ∷ []) e l (first_use_trying f 0 H q a b k) h))
+
+  -- ---- inside two terms
+
+  pub inside_no_application : (q : List ℕ) (a b : Tree) (g s n j k : ℕ) (ts : Trees) → App g s ts ≡ a → Var n j ≡ b → inside_trying f G H q a b k ≡ Made None k
+  inside_no_application q a b g s n j k ts e d = ap (λ x. inside_trying f G H q x b k) (sym e) ∙ ap (λ x. inside_trying f G H q (App g s ts) x k) (sym d)
+
+  inside_both : (q : List ℕ) (a b : Tree) (g s h j k : ℕ) (ts us : Trees) → App g s ts ≡ a → App h j us ≡ b
+      → inside_trying f G H q a b k ≡ (if (g == h) && (s == j) then all_joined_trying f G H g q 0 ts us else no_join) k
+  inside_both q a b g s h j k ts us e d = ap (λ x. inside_trying f G H q x b k) (sym e) ∙ ap (λ x. inside_trying f G H q (App g s ts) x k) (sym d)
+
+  pub inside_all : (q : List ℕ) (a b : Tree) (g s h j k : ℕ) (ts us : Trees) → App g s ts ≡ a → App h j us ≡ b → g ≡ h → s ≡ j
+      → inside_trying f G H q a b k ≡ all_joined_trying f G H g q 0 ts us k
+  inside_all q a b g s h j k ts us e d gh sj =
+      let t : ((g == h) && (s == j)) ≡ true = grind (arith, gh, sj) in
+      inside_both q a b g s h j k ts us e d ∙ ap (λ v. (if v then all_joined_trying f G H g q 0 ts us else no_join) k) t
+
+  pub inside_others : (q : List ℕ) (a b : Tree) (g s h j k : ℕ) (ts us : Trees) → App g s ts ≡ a → App h j us ≡ b → ((g == h) && (s == j)) ≡ false
+      → inside_trying f G H q a b k ≡ Made None k
+  inside_others q a b g s h j k ts us e d other =
+      inside_both q a b g s h j k ts us e d ∙ ap (λ v. (if v then all_joined_trying f G H g q 0 ts us else no_join) k) other
+
+  -- ---- arguments
+
+  abbrev pub row_at : ℕ → List ℕ → List Tree → List Tree → ℕ → ℕ → Work (Option (List HypothesisUse))
+  row_at g q ts us i k = all_joined_trying f G H g q i (trees_of (drop i ts)) (trees_of (drop i us)) k
+
+  -- the arguments before place i have joined, and so much is left
+  pub record Going (g : ℕ) (q : List ℕ) (ts us : List Tree) (old cur : List HypothesisUse) (first : ℕ) (i left : ℕ) : Type 0 where
+    pub within : i ≤ length us
+    pub js : List HypothesisUse
+    pub made : cur ≡ old ++ js
+    pub rest : all_joined_trying f G H g q 0 (trees_of ts) (trees_of us) first ≡ behind js (row_at g q ts us i left)
+
+  pub going_start : (g : ℕ) (q : List ℕ) (ts us : List Tree) (old : List HypothesisUse) (k : ℕ) → Going g q ts us old old k 0 k
+  going_start g q ts us old k =
+      record { within = omega arith; js = []; made = sym (nil_right old); rest = sym (behind_nothing (all_joined_trying f G H g q 0 (trees_of ts) (trees_of us) k)) }
+
+  -- one argument, and then the others
+  beside_first : (v p : Bool) (one rest : ℕ → Work (Option (List HypothesisUse))) (k : ℕ)
+      → beside_trying v p one rest k ≡ found_then (beside_alone v p one k) (λ us l. behind us (rest l))
+  beside_first true p one rest k = sym (behind_nothing (rest k))
+  beside_first false false one rest k = refl
+  beside_first false true one rest k = refl
+
+  abbrev pub one_at : ℕ → List ℕ → ℕ → (t u : Tree) → ℕ → Work (Option (List HypothesisUse))
+  one_at g q i t u = beside_alone (is_same t u) (is_place G g i) (joined_trying f G H (q ++ i ∷ []) t u)
+
+  row_read : (g : ℕ) (q : List ℕ) (ts us : List Tree) (i k : ℕ) (t u : Tree) → i < length ts → i < length us → t ≡ get_or ts i t → u ≡ get_or us i u
+      → row_at g q ts us i k ≡ found_then (one_at g q i t u k) (λ vs l. behind vs (row_at g q ts us (i + 1) l))
+  row_read g q ts us i k t u h d a b =
+      rw (drop_read ts i t h a, drop_read us i u d b)
+      (beside_first (is_same t u) (is_place G g i) (joined_trying f G H (q ++ i ∷ []) t u) (λ l. row_at g q ts us (i + 1) l) k)
+
+  -- the argument at place i joins
+  pub going_on : (g : ℕ) (q : List ℕ) (ts us : List Tree) (old cur new : List HypothesisUse) (first i k l : ℕ) (t u : Tree) → Going g q ts us old cur first i k
+      → i < length ts → i < length us → t ≡ get_or ts i t → u ≡ get_or us i u
+      → ((vs : List HypothesisUse) × (one_at g q i t u k ≡ Made (Some vs) l) × (new ≡ cur ++ vs)) → Going g q ts us old new first (i + 1) l
+  going_on g q ts us old cur new first i k l t u go h d a b j =
+      let r = row_read g q ts us i k t u h d a b in
+      let z : row_at g q ts us i k ≡ behind j.0 (row_at g q ts us (i + 1) l) = r ∙ ap (λ w. found_then w (λ vs m. behind vs (row_at g q ts us (i + 1) m))) j.1 in
+      record {
+        within = omega (arith, d);
+        js = go.js ++ j.0;
+        made = j.2 ∙ ap (λ x. x ++ j.0) go.made ∙ append_assoc old go.js j.0;
+        rest = go.rest ∙ ap (behind go.js) z ∙ behind_both go.js j.0 (row_at g q ts us (i + 1) l);
+      }
+
+  -- it does not
+  pub going_none : (g : ℕ) (q : List ℕ) (ts us : List Tree) (old cur : List HypothesisUse) (first i k l : ℕ) (t u : Tree) → Going g q ts us old cur first i k
+      → i < length ts → i < length us → t ≡ get_or ts i t → u ≡ get_or us i u → one_at g q i t u k ≡ Made None l
+      → all_joined_trying f G H g q 0 (trees_of ts) (trees_of us) first ≡ Made None l
+  going_none g q ts us old cur first i k l t u go h d a b j =
+      let r = row_read g q ts us i k t u h d a b in
+      go.rest ∙ ap (behind go.js) (r ∙ ap (λ w. found_then w (λ vs m. behind vs (row_at g q ts us (i + 1) m))) j)
+
+  -- it is not known whether it does
+  pub going_hindered : (g : ℕ) (q : List ℕ) (ts us : List Tree) (old cur : List HypothesisUse) (first i k l : ℕ) (t u : Tree) (e : RewriteFault)
+      → Going g q ts us old cur first i k → i < length ts → i < length us → t ≡ get_or ts i t → u ≡ get_or us i u → Hinders e l (one_at g q i t u k)
+      → Hinders e l (all_joined_trying f G H g q 0 (trees_of ts) (trees_of us) first)
+  going_hindered g q ts us old cur first i k l t u e go h d a b j =
+      let r = row_read g q ts us i k t u h d a b in
+      let w = one_at g q i t u k in
+      let next : List HypothesisUse → ℕ → Work (Option (List HypothesisUse)) = λ vs m. behind vs (row_at g q ts us (i + 1) m) in
+      hinders_same e l (all_joined_trying f G H g q 0 (trees_of ts) (trees_of us) first) (behind go.js (found_then w next)) (go.rest ∙ ap (behind go.js) r)
+      (hinders_map (λ vs. go.js ++ vs) e l (found_then w next) (hinders_then next e l w j))
+
+  -- the second row is shorter
+  pub going_short : (g : ℕ) (q : List ℕ) (ts us : List Tree) (old cur : List HypothesisUse) (first i k : ℕ) → Going g q ts us old cur first i k
+      → i < length ts → length us ≤ i → all_joined_trying f G H g q 0 (trees_of ts) (trees_of us) first ≡ Made None k
+  going_short g q ts us old cur first i k go h d =
+      go.rest ∙ ap (behind go.js) (shorter (drop i ts) (drop i us) (some ts i h) (drop_all i us d))
+    where
+      some : (xs : List Tree) (n : ℕ) → n < length xs → (length (drop n xs) ≡ 0 → ⊥)
+      some [] n h e = absurd (omega (arith, h))
+      some (x ∷ xs) zero h e = absurd (omega (arith, e))
+      some (x ∷ xs) (suc n) h e = some xs n (omega (arith, h)) e
+
+      shorter : (xs ys : List Tree) → (length xs ≡ 0 → ⊥) → ys ≡ [] → all_joined_trying f G H g q i (trees_of xs) (trees_of ys) k ≡ Made None k
+      shorter [] ys n e = absurd (n refl)
+      shorter (x ∷ xs) ys n e = ap (λ zs. all_joined_trying f G H g q i (trees_of (x ∷ xs)) (trees_of zs) k) e
+
+  -- the first row is at its end
+  pub going_end : (g : ℕ) (q : List ℕ) (ts us : List Tree) (old cur : List HypothesisUse) (first i k : ℕ) (v : Bool) → Going g q ts us old cur first i k
+      → length ts ≡ i → v ≡ (length ts == length us) → Joins (all_joined_trying f G H g q 0 (trees_of ts) (trees_of us) first) k old cur (Ok v)
+  going_end g q ts us old cur first i k true go h e =
+      let n : length ts ≡ length us = eqb-true (length ts) (length us) (sym e) in
+      let least : length us ≤ i = omega (arith, n, h) in (
+        go.js ++ [],
+        go.rest ∙ ap (behind go.js) (both (drop i ts) (drop i us) (drop_all i ts (omega (arith, h))) (drop_all i us least)),
+        go.made ∙ ap (λ x. old ++ x) (sym (nil_right go.js)),
+      )
+    where
+      both : (xs ys : List Tree) → xs ≡ [] → ys ≡ [] → all_joined_trying f G H g q i (trees_of xs) (trees_of ys) k ≡ Made (Some []) k
+      both xs ys d c = ap (λ zs. all_joined_trying f G H g q i (trees_of zs) (trees_of ys) k) d ∙ ap (λ zs. all_joined_trying f G H g q i (trees_of []) (trees_of zs) k) c
+  going_end g q ts us old cur first i k false go h e =
+      let n : (length us ≤ i → ⊥) = λ d. absurd (let z : length ts ≡ length us = omega (arith, h, d, go.within) in
+      let t : (length ts == length us) ≡ true = grind (arith, z) in let never : true ≡ false = sym t ∙ sym e in cc) in
+      go.rest ∙ ap (behind go.js) (longer (drop i ts) (drop i us) (drop_all i ts (omega (arith, h))) (some us i n))
+    where
+      some : (xs : List Tree) (m : ℕ) → (length xs ≤ m → ⊥) → length (drop m xs) ≡ 0 → ⊥
+      some [] m c d = c (omega arith)
+      some (x ∷ xs) zero c d = absurd (omega (arith, d))
+      some (x ∷ xs) (suc m) c d = some xs m (λ z. c (omega (arith, z))) d
+
+      longer : (xs ys : List Tree) → xs ≡ [] → (length ys ≡ 0 → ⊥) → all_joined_trying f G H g q i (trees_of xs) (trees_of ys) k ≡ Made None k
+      longer xs [] d c = absurd (c refl)
+      longer xs (y ∷ ys) d c = ap (λ zs. all_joined_trying f G H g q i (trees_of zs) (trees_of (y ∷ ys)) k) d

@@ -1,7 +1,11 @@
 pub mod Joins
 pub mod BothSides
 pub mod FirstUse
-pub mod Passes
+pub mod Sweeps
 pub mod Places
 pub mod FirstLemma
 pub mod TwoParts
+pub mod SameForms
+pub mod Standing
+pub mod UsesMade
+pub mod PutIn

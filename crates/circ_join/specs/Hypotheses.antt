@@ -6,7 +6,6 @@ use Rattle.circ_theory.specs.declared.parts.Goal.{Goal}
 use Rattle.circ_theory.specs.declared.way.Way.{Way}
 use Rattle.circ_theory.specs.declared.way.Way.TheVariants.{Forth, Back}
 use Rattle.circ_rewrite.specs.Code.{goal_code}
-use Rattle.circ_plain_search.specs.BlockRules.{HaveNoConditions}
 
 -- the goals of earlier blocks, and all hypotheses, which begin with them
 pub record BlockHypotheses : Type 0 where
@@ -27,11 +26,10 @@ hypotheses_in H n = hypotheses_with (take n H) H
 abbrev pub both_sides : Goal → Tree × Tree
 both_sides g = (g.left, g.right)
 
--- The indexes have the goals' sides, one behind the other, and the goals are few and have no conditions.
+-- The indexes have the goals' sides, one behind the other, and the goals are few.
 pub record IsIndexed (goals : List Goal) (earlier own : List (Tree × Tree)) : Type 0 where
   pub sides : earlier ++ own ≡ map both_sides goals
   pub few : length goals < 2 ^ 31
-  pub plain : HaveNoConditions goals
 
 -- which side of a hypothesis is found at a place of the index
 abbrev pub way_at : (place : ℕ) → Way

@@ -1,14 +1,13 @@
 -- What parts of a search answer that may stop it.
-use Rattle.std.specs.Prelude.{◌≡◌, ℕ, List, map, Result, Ok, Err}
-use Rattle.std.specs.Option.{unwrap_or}
-use Rattle.circ_term.specs.Tree.{Tree, replaced}
-use Rattle.circ_term.specs.Limits.{Big, Deep, first_limit}
+use Rattle.std.specs.Prelude.{◌≡◌, map, Result, Ok, Err}
+use Rattle.circ_term.specs.Tree.{Tree}
+use Rattle.circ_term.specs.Limits.{Big, Deep}
 use Rattle.circ_term.specs.declared.fault.TermFault.{TermFault}
 use Rattle.circ_term.specs.declared.fault.TermFault.TheVariants as term
 use Rattle.circ_theory.specs.Pairs.{plain_pair}
 use Rattle.circ_rewrite.specs.declared.fault.RewriteFault.{RewriteFault}
 use Rattle.circ_rewrite.specs.declared.fault.RewriteFault.TheVariants as rewrite
-use Rattle.circ_plain_search.specs.Joining.{Stop, No_budget, Past_limit, Not_split, within_or}
+use Rattle.circ_plain_search.specs.Joining.{Stop, No_budget, Past_limit, Not_split}
 use Rattle.circ_join.specs.declared.stop.Stop.{Stop as TheStop}
 use Rattle.circ_join.specs.declared.stop.Stop.TheVariants as stop
 
@@ -35,13 +34,3 @@ rewrite_stop rewrite.Memory = stop.Memory
 abbrev pub Puts : Result Tree Stop → Result Tree TheStop → Type 0
 Puts r (Ok t) = r ≡ Ok t
 Puts r (Err e) = Stops r e
-
--- the same for one subterm
-abbrev pub PutsAt : (whole : Tree) → (path : List ℕ) → (new : Tree) → Result Tree TheStop → Type 0
-PutsAt whole path new r =
-    Puts (within_or (first_limit (unwrap_or (replaced whole path new) whole)) (unwrap_or (replaced whole path new) whole)) r
-
--- the same where each use is one rewrite step, with what is left of the budget
-abbrev pub PutsCounted : Result (Tree × ℕ) Stop → (left : ℕ) → Result Tree TheStop → Type 0
-PutsCounted r left (Ok t) = r ≡ Ok (t, left)
-PutsCounted r left (Err e) = Stops r e

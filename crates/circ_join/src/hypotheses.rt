@@ -1,8 +1,7 @@
 //! Hypotheses, found by their sides.
-ghost use Rattle.std.specs.Prelude.{◌≡◌, ◌<◌, ◌+◌, ◌^◌, [], ◌∷◌, ◌++◌, length, map};
+ghost use Rattle.std.specs.Prelude.{◌≡◌, ◌<◌, ◌≤◌, ◌+◌, ◌*◌, ◌^◌, [], ◌∷◌, ◌++◌, length, map};
 ghost use Rattle.std.specs.Prelude.{IfOk, OnOk, OnErr};
 ghost use Rattle.circ_index.specs.Finding.{FindsFirstPair};
-ghost use Rattle.circ_plain_search.specs.BlockRules.{HaveNoConditions};
 ghost use Rattle.circ_join.specs.Hypotheses.{both_sides, hypotheses_with};
 
 use circ_index::PairIndex;
@@ -48,10 +47,8 @@ impl Hypotheses {
         }
     }
 
-    /// Puts a hypothesis of the block, which has no conditions, last. If it runs out of memory they
-    /// are as before.
+    /// Puts a hypothesis of the block last. If it runs out of memory they are as before.
     pub fn push(&mut self, goal: &Goal) -> Result<(), AllocError>
-        requires plain { goal.now.conds ≡ [] }
         requires few { length self.old.all + 1 < 2 ^ 31 }
         ensures added { OnOk result
             (self.new ≡ hypotheses_with self.old.earlier (self.old.all ++ goal.now ∷ [])) }
@@ -60,11 +57,9 @@ impl Hypotheses {
         push_indexed(self.alloc, &mut self.goals, &mut self.own, goal)
     }
 
-    /// The block is finished: its own hypotheses go, and these goals, which are its own and have no
-    /// conditions, come behind those of earlier blocks. If it runs out of memory some of them may
-    /// be missing.
+    /// The block is finished: its own hypotheses go, and these goals, which are its own, come
+    /// behind those of earlier blocks. If it runs out of memory some of them may be missing.
     pub fn finish_block(&mut self, goals: &[Goal]) -> Result<(), AllocError>
-        requires plain { HaveNoConditions goals.now }
         requires few { length self.old.earlier + length goals.now < 2 ^ 31 }
         ensures { OnOk result (self.new ≡ hypotheses_with (self.old.earlier ++ goals.now)
             (self.old.earlier ++ goals.now)) }
@@ -86,7 +81,6 @@ impl Hypotheses {
 
     // Puts a goal of an earlier block last, where there are no hypotheses of the block itself.
     fn push_earlier(&mut self, goal: &Goal) -> Result<(), AllocError>
-        requires plain { goal.now.conds ≡ [] }
         requires none { self.old.all ≡ self.old.earlier }
         requires few { length self.old.earlier + 1 < 2 ^ 31 }
         ensures { OnOk result (self.new ≡ hypotheses_with (self.old.earlier ++ goal.now ∷ [])
@@ -109,21 +103,44 @@ impl Hypotheses {
         &self.goals[..self.earlier.len()]
     }
 
-    // The first that has the two terms as an instance, either way, with the substitution. At place
-    // 2n is hypothesis n from left to right, and at place 2n + 1 the other way about.
-    pub(crate) fn first(&self, a: &Term, b: &Term) -> Result<Option<(u32, Subst)>, AllocError>
-        ensures found { IfOk result (FindsFirstPair (map both_sides self.now.all) 0 a.now b.now) }
-        ensures plain { HaveNoConditions self.now.all }
+    // The first at or behind a place that has the two terms as an instance, with the substitution.
+    // At place 2n is hypothesis n from left to right, and at place 2n + 1 the other way about.
+    pub(crate) fn first(
+        &self,
+        from: u32,
+        a: &Term,
+        b: &Term,
+    ) -> Result<Option<(u32, Subst)>, AllocError>
+        requires { from ≤ 2 * length self.now.all }
+        ensures found { IfOk result (FindsFirstPair (map both_sides self.now.all) from a.now
+            b.now) }
+        ensures few { length self.now.all < 2 ^ 31 }
     {
-        match self.earlier.first(0, a, b)? {
+        let before = 2 * self.earlier.len() as u32;
+        if from >= before {
+            return self.own_first(before, from - before, a, b);
+        }
+        match self.earlier.first(from, a, b)? {
             Some(found) => Ok(Some(found)),
-            None => match self.own.first(0, a, b)? {
-                Some((place, subst)) => {
-                    let before = 2 * self.earlier.len() as u32;
-                    Ok(Some((before + place, subst)))
-                }
-                None => Ok(None),
-            },
+            None => self.own_first(before, 0, a, b),
+        }
+    }
+
+    // The first of the block's own, which stand behind so many places, at or behind one of theirs.
+    fn own_first(
+        &self,
+        before: u32,
+        from: u32,
+        a: &Term,
+        b: &Term,
+    ) -> Result<Option<(u32, Subst)>, AllocError>
+        requires { before ≡ 2 * length self.now.earlier }
+        ensures { IfOk result (FindsFirstPair (map both_sides self.now.all) (before + from) a.now
+            b.now) }
+    {
+        match self.own.first(from, a, b)? {
+            Some((place, subst)) => Ok(Some((before + place, subst))),
+            None => Ok(None),
         }
     }
 }

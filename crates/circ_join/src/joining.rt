@@ -1,19 +1,23 @@
 //! Whether two terms join by hypotheses at special paths.
-ghost use Rattle.std.specs.Prelude.{◌≡◌, ◌≤◌, [], ◌∷◌, ◌++◌, length, false, None};
-ghost use Rattle.std.specs.Prelude.{map, IfOk, OnOk};
+ghost use Rattle.std.specs.Prelude.{◌≡◌, ◌≤◌, ◌<◌, ◌*◌, [], ◌∷◌, ◌++◌, length, false};
+ghost use Rattle.std.specs.Prelude.{OnOk};
 ghost use Rattle.std.specs.Option.{option_map};
 ghost use Rattle.circ_term.specs.Tree.{trees_of};
 ghost use Rattle.circ_term.specs.Order.{is_same};
-ghost use Rattle.circ_plain_search.specs.Joining.{first_use, joined, all_joined, is_place};
-ghost use Rattle.circ_join.specs.Hypotheses.{way_at};
-ghost use Rattle.circ_join.specs.Uses.{plain_use, plain_uses, Joins};
+ghost use Rattle.circ_plain_search.specs.Joining.{is_place};
+ghost use Rattle.circ_conditional_search.specs.Joining.{first_use_trying};
+ghost use Rattle.circ_conditional_search.specs.Joining.{joined_trying, all_joined_trying};
+ghost use Rattle.circ_join.specs.Trying.{normaliser_of, Works, Joins};
+ghost use Rattle.circ_join.specs.Trying.{beside_alone, inside_trying};
+ghost use Rattle.circ_join.specs.Uses.{plain_use, plain_uses};
 
 use crate::hypotheses::Hypotheses;
 use crate::uses::HypothesisUse;
+use circ_rewrite::RewriteFault;
 use circ_special::Gamma;
 use circ_term::{Kind, Path, Term};
-use circ_theory::Way;
-use std::alloc::{AllocError, Global};
+use circ_tries::Reducer;
+use std::alloc::Global;
 
 /// What two terms may join by.
 #[derive(Clone, Copy)]
@@ -28,17 +32,27 @@ pub struct Joining<'a> {
 
 impl Joining<'_> {
     /// The uses of hypotheses that make the first term equal to the second. None where they do not
-    /// join.
-    pub fn join(&self, a: &Term, b: &Term) -> Result<Option<Vec<HypothesisUse>>, AllocError>
-        ensures { IfOk result (λ o. option_map (λ v. plain_uses v.items) o
-            ≡ joined self.now.gamma.now self.now.hyps.now.all [] a.now b.now) }
+    /// join. Conditions are normalised by the reducer. The budget falls by one for each try and for
+    /// each replacement, also where what was tried counts for nothing in the end.
+    pub fn join(
+        &self,
+        reducer: &mut Reducer<'_>,
+        a: &Term,
+        b: &Term,
+        budget: &mut u64,
+    ) -> Result<Option<Vec<HypothesisUse>>, RewriteFault>
+        ensures exact { Works (option_map (λ v. plain_uses v.items)) budget.new
+            (joined_trying (normaliser_of reducer.old) self.now.gamma.now self.now.hyps.now.all []
+            a.now b.now budget.old) result }
+        ensures less { budget.new ≤ budget.old }
+        ensures same { reducer.new ≡ reducer.old }
     {
         let mut path = Path::new(self.alloc);
         let mut uses = Vec::new(self.alloc);
-        if self.joins(a, b, &mut path, &mut uses)? {
-            Ok(Some(uses))
-        } else {
-            Ok(None)
+        match self.joins(reducer, a, b, &mut path, &mut uses, budget) {
+            Err(fault) => Err(fault),
+            Ok(true) => Ok(Some(uses)),
+            Ok(false) => Ok(None),
         }
     }
 
@@ -47,39 +61,53 @@ impl Joining<'_> {
     #[cycle(join)]
     fn joins(
         &self,
+        reducer: &mut Reducer<'_>,
         a: &Term,
         b: &Term,
         path: &mut Path,
         uses: &mut Vec<HypothesisUse>,
-    ) -> Result<bool, AllocError>
-        ensures exact { Joins (joined self.now.gamma.now self.now.hyps.now.all path.old.items
-            a.now b.now) (plain_uses uses.old.items) (plain_uses uses.new.items) result }
+        budget: &mut u64,
+    ) -> Result<bool, RewriteFault>
+        ensures exact { Joins (joined_trying (normaliser_of reducer.old) self.now.gamma.now
+            self.now.hyps.now.all path.old.items a.now b.now budget.old) budget.new
+            (plain_uses uses.old.items) (plain_uses uses.new.items) result }
         ensures path { OnOk result (path.new.items ≡ path.old.items) }
+        ensures less { budget.new ≤ budget.old }
+        ensures same { reducer.new ≡ reducer.old }
     {
         if a.same(b) {
             return Ok(true);
         }
-        if let Some(one) = self.first_use(path.as_slice(), a, b)? {
-            uses.push(one)?;
-            return Ok(true);
+        match self
+            .hyps
+            .first_use(self.alloc, reducer, path.as_slice(), a, b, budget)
+        {
+            Err(fault) => Err(fault),
+            Ok(Some(one)) => {
+                uses.push(one)?;
+                Ok(true)
+            }
+            Ok(None) => self.joins_inside(reducer, a, b, path, uses, budget),
         }
-        self.joins_inside(a, b, path, uses)
     }
 
     // The same of terms that differ, where no hypothesis is used on them: their arguments join.
     #[cycle(join)]
     fn joins_inside(
         &self,
+        reducer: &mut Reducer<'_>,
         a: &Term,
         b: &Term,
         path: &mut Path,
         uses: &mut Vec<HypothesisUse>,
-    ) -> Result<bool, AllocError>
-        requires differ { is_same a.now b.now ≡ false }
-        requires unused { first_use 0 self.now.hyps.now.all path.old.items a.now b.now ≡ None }
-        ensures exact { Joins (joined self.now.gamma.now self.now.hyps.now.all path.old.items
-            a.now b.now) (plain_uses uses.old.items) (plain_uses uses.new.items) result }
+        budget: &mut u64,
+    ) -> Result<bool, RewriteFault>
+        ensures exact { Joins (inside_trying (normaliser_of reducer.old) self.now.gamma.now
+            self.now.hyps.now.all path.old.items a.now b.now budget.old) budget.new
+            (plain_uses uses.old.items) (plain_uses uses.new.items) result }
         ensures path { OnOk result (path.new.items ≡ path.old.items) }
+        ensures less { budget.new ≤ budget.old }
+        ensures same { reducer.new ≡ reducer.old }
     {
         match (a.kind(), b.kind()) {
             (Kind::Variable { .. }, _) => Ok(false),
@@ -95,7 +123,7 @@ impl Joining<'_> {
                 if op != other_op || sort != other_sort {
                     return Ok(false);
                 }
-                self.all_join(op, args, others, path, uses)
+                self.all_join(reducer, op, args, others, path, uses, budget)
             }
         }
     }
@@ -104,94 +132,73 @@ impl Joining<'_> {
     #[cycle(join)]
     fn all_join(
         &self,
+        reducer: &mut Reducer<'_>,
         op: u32,
         args: &[Term],
         others: &[Term],
         path: &mut Path,
         uses: &mut Vec<HypothesisUse>,
-    ) -> Result<bool, AllocError>
+        budget: &mut u64,
+    ) -> Result<bool, RewriteFault>
         requires narrow { length args.now ≤ 65536 }
-        ensures exact { Joins (all_joined self.now.gamma.now self.now.hyps.now.all op
-            path.old.items 0 (trees_of args.now) (trees_of others.now))
+        ensures exact { Joins (all_joined_trying (normaliser_of reducer.old) self.now.gamma.now
+            self.now.hyps.now.all op path.old.items 0 (trees_of args.now) (trees_of others.now)
+            budget.old) budget.new
             (plain_uses uses.old.items) (plain_uses uses.new.items) result }
         ensures path { OnOk result (path.new.items ≡ path.old.items) }
+        ensures less { budget.new ≤ budget.old }
+        ensures same { reducer.new ≡ reducer.old }
     {
-        if args.len() != others.len() {
-            return Ok(false);
-        }
         for i in 0..args.len() {
-            let arg = &args[i];
-            let other = &others[i];
-            if arg.same(other) {
-                continue;
-            }
-            if !has_place(self.gamma, op, i as u16) {
+            if i >= others.len() {
                 return Ok(false);
             }
-            if !self.joins_at(i as u16, arg, other, path, uses)? {
-                return Ok(false);
+            match self.joins_at(
+                reducer, op, i as u16, &args[i], &others[i], path, uses, budget,
+            ) {
+                Err(fault) => return Err(fault),
+                Ok(joins) => {
+                    if !joins {
+                        return Ok(false);
+                    }
+                }
             }
         }
-        Ok(true)
+        Ok(args.len() == others.len())
     }
 
-    // The same for the arguments at a place.
+    // The same for one argument: it is equal, or stands at a place of the set and joins.
     #[cycle(join)]
     fn joins_at(
         &self,
+        reducer: &mut Reducer<'_>,
+        op: u32,
         i: u16,
         arg: &Term,
         other: &Term,
         path: &mut Path,
         uses: &mut Vec<HypothesisUse>,
-    ) -> Result<bool, AllocError>
-        ensures exact { Joins (joined self.now.gamma.now self.now.hyps.now.all
-            (path.old.items ++ i ∷ []) arg.now other.now)
-            (plain_uses uses.old.items) (plain_uses uses.new.items) result }
+        budget: &mut u64,
+    ) -> Result<bool, RewriteFault>
+        ensures exact { Joins (beside_alone (is_same arg.now other.now)
+            (is_place self.now.gamma.now op i)
+            (joined_trying (normaliser_of reducer.old) self.now.gamma.now
+            self.now.hyps.now.all (path.old.items ++ i ∷ []) arg.now other.now) budget.old)
+            budget.new (plain_uses uses.old.items) (plain_uses uses.new.items) result }
         ensures path { OnOk result (path.new.items ≡ path.old.items) }
+        ensures less { budget.new ≤ budget.old }
+        ensures same { reducer.new ≡ reducer.old }
     {
+        if arg.same(other) {
+            return Ok(true);
+        }
+        if !has_place(self.gamma, op, i) {
+            return Ok(false);
+        }
         path.push(i)?;
-        let joins = self.joins(arg, other, path, uses)?;
+        let joins = self.joins(reducer, arg, other, path, uses, budget);
         let _last = path.pop();
-        Ok(joins)
-    }
-
-    // The first use of a hypothesis on both terms. They are tried in order, each from left to right
-    // before the other way about.
-    fn first_use(
-        &self,
-        path: &[u16],
-        a: &Term,
-        b: &Term,
-    ) -> Result<Option<HypothesisUse>, AllocError>
-        ensures { IfOk result (λ o. option_map plain_use o
-            ≡ first_use 0 self.now.hyps.now.all path.now a.now b.now) }
-    {
-        let Some((place, subst)) = self.hyps.first(a, b)? else {
-            return Ok(None);
-        };
-        let path = Path::from_slice(self.alloc, path)?;
-        let terms = subst.terms()?;
-        let new = b.share()?;
-        Ok(Some(HypothesisUse {
-            number: place / 2,
-            way: way_at(place),
-            path,
-            terms,
-            conds: Vec::new(self.alloc),
-            new,
-        }))
-    }
-}
-
-// Which side of a hypothesis is found at a place.
-fn way_at(place: u32) -> Way
-    ensures { result ≡ way_at place }
-{
-    if place % 2 == 0 {
-        Way::Forth
-    } else {
-        Way::Back
+        joins
     }
 }
 

@@ -1,17 +1,15 @@
 //! Lemmas, found by their left sides.
 ghost use Rattle.std.specs.Prelude.{◌≡◌, ◌+◌, ◌<◌, ◌==◌, ◌^◌, [], ◌∷◌, ◌++◌, length, map};
 ghost use Rattle.std.specs.Prelude.{IfOk, OnOk, OnErr};
-ghost use Rattle.std.specs.Option.{option_map};
+ghost use Rattle.std.specs.List.{AllByRecursion};
 ghost use Rattle.circ_index.specs.Finding.{FindsFirst};
 ghost use Rattle.circ_rewrite.specs.Due.{IsRewriteRule};
-ghost use Rattle.circ_plain_search.specs.Joining.{first_lemma, rule_number};
+ghost use Rattle.circ_plain_search.specs.Joining.{rule_number};
 ghost use Rattle.circ_join.specs.Lemmas.{left_of};
-ghost use Rattle.circ_join.specs.Uses.{plain_lemma_use};
 
-use crate::uses::LemmaUse;
 use circ_index::RuleIndex;
 use circ_rewrite::{Rule, RuleName};
-use circ_term::{Path, Subst, Term};
+use circ_term::{Subst, Term};
 use std::alloc::{AllocError, Global};
 use std::marker::Model;
 
@@ -69,41 +67,26 @@ impl Lemmas {
         self.rules.is_empty()
     }
 
-    // The first that has the term as an instance of its left side, with the substitution.
-    fn first(&self, term: &Term) -> Result<Option<(u32, Subst)>, AllocError>
-        ensures { IfOk result (FindsFirst (map left_of self.now) 0 term.now) }
+    // The first at or behind a place that has the term as an instance of its left side, with the
+    // substitution.
+    pub(crate) fn first(&self, from: u32, term: &Term) -> Result<Option<(u32, Subst)>, AllocError>
+        ensures found { IfOk result (FindsFirst (map left_of self.now) from term.now) }
+        ensures few { length self.now < 2 ^ 32 }
     {
-        self.index.first(0, term)
+        self.index.first(from, term)
     }
 
-    // The use of that lemma at a path.
-    pub(crate) fn first_use(
-        &self,
-        alloc: Global,
-        path: &[u16],
-        term: &Term,
-    ) -> Result<Option<LemmaUse>, AllocError>
-        ensures { IfOk result (λ o. option_map plain_lemma_use o
-            ≡ first_lemma self.now path.now term.now) }
+    // The rules, in their order.
+    pub(crate) fn rules(&self) -> &[Rule]
+        ensures rules { result.now ≡ self.now }
+        ensures rewrite { AllByRecursion IsRewriteRule result.now }
+        ensures few { length result.now < 2 ^ 32 }
     {
-        let Some((place, subst)) = self.first(term)? else {
-            return Ok(None);
-        };
-        let lemma = &self.rules[place as usize];
-        let terms = subst.terms()?;
-        let path = Path::from_slice(alloc, path)?;
-        let right = lemma.right.share()?;
-        Ok(Some(LemmaUse {
-            number: rule_number(lemma.name),
-            path,
-            terms,
-            subst,
-            right,
-        }))
+        self.rules.as_slice()
     }
 }
 
-fn rule_number(name: RuleName) -> u32
+pub(crate) fn rule_number(name: RuleName) -> u32
     ensures { result ≡ rule_number name }
 {
     match name {

@@ -1,16 +1,29 @@
-//! Where a lemma pass uses lemmas.
-ghost use Rattle.std.specs.Prelude.{◌≡◌, ◌≤◌, [], ◌∷◌, ◌++◌, length};
-ghost use Rattle.std.specs.Prelude.{IfOk, OnOk};
+//! What a lemma pass makes of a term.
+ghost use Rattle.std.specs.Prelude.{◌≡◌, ◌≤◌, ◌<◌, [], ◌∷◌, ◌++◌, length, Some, OnOk};
+ghost use Rattle.std.specs.Option.{option_map};
+ghost use Rattle.std.specs.List.{slice_get};
+ghost use Rattle.circ_term.specs.Subst.{substitution_of};
 ghost use Rattle.circ_term.specs.Tree.{trees_of};
-ghost use Rattle.circ_plain_search.specs.Joining.{swept, all_swept};
-ghost use Rattle.circ_join.specs.Uses.{plain_lemma_uses};
+ghost use Rattle.circ_rewrite.specs.declared.parts.Rule.{Rule as TheRule};
+ghost use Rattle.circ_plain_search.specs.Joining.{is_place};
+ghost use Rattle.circ_conditional_search.specs.Joining.{swept_with, swept_trying, put_swept};
+ghost use Rattle.circ_conditional_search.specs.Joining.{all_swept_trying, first_lemma_trying};
+ghost use Rattle.circ_join.specs.Binding.{BindsLeft};
+ghost use Rattle.circ_join.specs.Trying.{normaliser_of, Works, lemma_use_by};
+ghost use Rattle.circ_join.specs.Sweeping.{plain_swept, plain_due, Goes, swept_place};
 
+use crate::conditions::{passes, rewrite_fault};
 use crate::joining::has_place;
-use crate::lemmas::Lemmas;
-use crate::uses::LemmaUse;
+use crate::lemmas::{Lemmas, rule_number};
+use crate::putting::put_at;
+use crate::uses::{HypothesisUse, chains_of};
+use circ_proof::Chain;
+use circ_rewrite::RewriteFault;
 use circ_special::Gamma;
-use circ_term::{Kind, Path, Term};
-use std::alloc::{AllocError, Global};
+use circ_term::{Kind, Path, Subst, Term};
+use circ_theory::Way;
+use circ_tries::Reducer;
+use std::alloc::Global;
 
 /// What a lemma pass may use.
 #[derive(Clone, Copy)]
@@ -23,42 +36,84 @@ pub struct Passing<'a> {
     pub lemmas: &'a Lemmas,
 }
 
-impl Passing<'_> {
-    /// The uses of lemmas that a pass over the term makes: at special paths, a term before its
-    /// arguments, arguments from the left, and none inside a use.
-    pub fn pass(&self, term: &Term) -> Result<Vec<LemmaUse>, AllocError>
-        ensures { IfOk result (λ v. plain_lemma_uses v.items
-            ≡ swept self.now.gamma.now self.now.lemmas.now [] term.now) }
+/// The whole term as it stands in a lemma pass.
+#[derive(Drop)]
+pub struct Swept {
+    /// The term.
+    pub whole: Term,
+    /// The lemmas that were used so far, in order.
+    pub uses: Vec<HypothesisUse>,
+}
+
+// A lemma whose left side was found at a path of the whole term, and whose conditions hold. What
+// takes the place of the subterm is not built yet.
+#[derive(Drop)]
+struct DueLemma<'a> {
+    number: u32,
+    path: Path,
+    terms: Vec<Term>,
+    conds: Vec<Chain<Term>>,
+    subst: Subst,
+    right: &'a Term,
+}
+
+impl<'a> Passing<'a> {
+    /// What a lemma pass makes of a term: at special paths, a term before its arguments, arguments
+    /// from the left, and none inside a new term. Each replacement is made before the next path is
+    /// looked at. The budget falls by one for each replacement and for each try; after a limit is
+    /// passed it holds what was left before the replacement.
+    pub fn pass(
+        &self,
+        reducer: &mut Reducer<'_>,
+        term: &Term,
+        budget: &mut u64,
+    ) -> Result<Swept, RewriteFault>
+        ensures exact { Works plain_swept budget.new (swept_trying (normaliser_of reducer.old)
+            self.now.gamma.now self.now.lemmas.now [] term.now (swept_with term.now []) budget.old)
+            result }
+        ensures less { budget.new ≤ budget.old }
+        ensures same { reducer.new ≡ reducer.old }
     {
-        let mut path = Path::new(self.alloc);
-        let mut uses = Vec::new(self.alloc);
+        let mut swept = Swept {
+            whole: term.share()?,
+            uses: Vec::new(self.alloc),
+        };
         if self.lemmas.is_empty() {
-            return Ok(uses);
+            return Ok(swept);
         }
-        self.sweep(term, &mut path, &mut uses)?;
-        Ok(uses)
+        let mut path = Path::new(self.alloc);
+        match self.sweep(reducer, term, &mut path, &mut swept, budget) {
+            Ok(()) => Ok(swept),
+            Err(fault) => Err(fault),
+        }
     }
 
-    // A pass over a term that stands at the path. The uses are appended.
+    // A pass over a term that stands at the path of the whole.
     #[cycle(sweep)]
     fn sweep(
         &self,
+        reducer: &mut Reducer<'_>,
         term: &Term,
         path: &mut Path,
-        uses: &mut Vec<LemmaUse>,
-    ) -> Result<(), AllocError>
-        ensures exact { OnOk result (plain_lemma_uses uses.new.items
-            ≡ plain_lemma_uses uses.old.items
-            ++ swept self.now.gamma.now self.now.lemmas.now path.old.items term.now) }
+        swept: &mut Swept,
+        budget: &mut u64,
+    ) -> Result<(), RewriteFault>
+        ensures exact { Goes (swept_trying (normaliser_of reducer.old) self.now.gamma.now
+            self.now.lemmas.now path.old.items term.now (plain_swept swept.old) budget.old)
+            (plain_swept swept.new) budget.new result }
         ensures path { OnOk result (path.new.items ≡ path.old.items) }
+        ensures less { budget.new ≤ budget.old }
+        ensures same { reducer.new ≡ reducer.old }
     {
-        if let Some(one) = self.lemmas.first_use(self.alloc, path.as_slice(), term)? {
-            uses.push(one)?;
-            return Ok(());
-        }
-        match term.kind() {
-            Kind::Variable { .. } => Ok(()),
-            Kind::Application { op, args, .. } => self.sweep_all(op, args, path, uses),
+        match self.first_use(reducer, path.as_slice(), term, budget) {
+            Err(fault) => Err(fault),
+            Ok(Some(due)) => self.put(swept, due, budget),
+            Ok(None) => match term.kind() {
+                Kind::Variable { .. } => Ok(()),
+                Kind::Application { op, args, .. } => {
+                    self.sweep_all(reducer, op, args, path, swept, budget)
+                }
+            },
         }
     }
 
@@ -66,43 +121,151 @@ impl Passing<'_> {
     #[cycle(sweep)]
     fn sweep_all(
         &self,
+        reducer: &mut Reducer<'_>,
         op: u32,
         args: &[Term],
         path: &mut Path,
-        uses: &mut Vec<LemmaUse>,
-    ) -> Result<(), AllocError>
+        swept: &mut Swept,
+        budget: &mut u64,
+    ) -> Result<(), RewriteFault>
         requires narrow { length args.now ≤ 65536 }
-        ensures exact { OnOk result (plain_lemma_uses uses.new.items
-            ≡ plain_lemma_uses uses.old.items ++ all_swept self.now.gamma.now
-            self.now.lemmas.now op path.old.items 0 (trees_of args.now)) }
+        ensures exact { Goes (all_swept_trying (normaliser_of reducer.old) self.now.gamma.now
+            self.now.lemmas.now op path.old.items 0 (trees_of args.now) (plain_swept swept.old)
+            budget.old) (plain_swept swept.new) budget.new result }
         ensures path { OnOk result (path.new.items ≡ path.old.items) }
+        ensures less { budget.new ≤ budget.old }
+        ensures same { reducer.new ≡ reducer.old }
     {
         for i in 0..args.len() {
-            let arg = &args[i];
-            if has_place(self.gamma, op, i as u16) {
-                self.sweep_at(i as u16, arg, path, uses)?;
+            match self.sweep_at(reducer, op, i as u16, &args[i], path, swept, budget) {
+                Ok(()) => {}
+                Err(fault) => return Err(fault),
             }
         }
         Ok(())
     }
 
-    // The same over the argument at a place.
+    // The same over one argument, where it stands at a place of the set.
     #[cycle(sweep)]
     fn sweep_at(
         &self,
+        reducer: &mut Reducer<'_>,
+        op: u32,
         i: u16,
         arg: &Term,
         path: &mut Path,
-        uses: &mut Vec<LemmaUse>,
-    ) -> Result<(), AllocError>
-        ensures exact { OnOk result (plain_lemma_uses uses.new.items
-            ≡ plain_lemma_uses uses.old.items
-            ++ swept self.now.gamma.now self.now.lemmas.now (path.old.items ++ i ∷ []) arg.now) }
+        swept: &mut Swept,
+        budget: &mut u64,
+    ) -> Result<(), RewriteFault>
+        ensures exact { Goes (swept_place (is_place self.now.gamma.now op i)
+            (swept_trying (normaliser_of reducer.old) self.now.gamma.now self.now.lemmas.now
+            (path.old.items ++ i ∷ []) arg.now) (plain_swept swept.old) budget.old)
+            (plain_swept swept.new) budget.new result }
         ensures path { OnOk result (path.new.items ≡ path.old.items) }
+        ensures less { budget.new ≤ budget.old }
+        ensures same { reducer.new ≡ reducer.old }
     {
+        if !has_place(self.gamma, op, i) {
+            return Ok(());
+        }
         path.push(i)?;
-        self.sweep(arg, path, uses)?;
+        let goes = self.sweep(reducer, arg, path, swept, budget);
         let _last = path.pop();
+        goes
+    }
+
+    // The first lemma that applies to the term at the path.
+    fn first_use(
+        &self,
+        reducer: &mut Reducer<'_>,
+        path: &[u16],
+        term: &Term,
+        budget: &mut u64,
+    ) -> Result<Option<DueLemma<'a>>, RewriteFault>
+        ensures exact { Works (option_map plain_due) budget.new (first_lemma_trying
+            (normaliser_of reducer.old) self.now.lemmas.now path.now term.now budget.old) result }
+        ensures less { budget.new ≤ budget.old }
+        ensures same { reducer.new ≡ reducer.old }
+    {
+        let mut from = 0;
+        loop {
+            let Some((place, subst)) = self.lemmas.first(from, term)? else {
+                return Ok(None);
+            };
+            match self.use_at(reducer, place, subst, path, budget) {
+                Err(fault) => return Err(fault),
+                Ok(Some(due)) => return Ok(Some(due)),
+                Ok(None) => from = place + 1,
+            }
+        }
+    }
+
+    // The use of the lemma at a place whose left side matches, where its conditions hold.
+    fn use_at(
+        &self,
+        reducer: &mut Reducer<'_>,
+        place: u32,
+        subst: Subst,
+        path: &[u16],
+        budget: &mut u64,
+    ) -> Result<Option<DueLemma<'a>>, RewriteFault>
+        requires there { place < length self.now.lemmas.now }
+        requires binds { (r : TheRule) → slice_get self.now.lemmas.now place ≡ Some r
+            → BindsLeft r subst }
+        ensures exact { (r : TheRule) → slice_get self.now.lemmas.now place ≡ Some r
+            → Works (option_map plain_due) budget.new (lemma_use_by (normaliser_of reducer.old) r
+            path.now (substitution_of subst) budget.old) result }
+        ensures less { budget.new ≤ budget.old }
+        ensures same { reducer.new ≡ reducer.old }
+    {
+        let lemma = &self.lemmas.rules()[place as usize];
+        match passes(self.alloc, reducer, lemma.conds.as_slice(), &subst, budget) {
+            Err(fault) => Err(fault),
+            Ok(None) => Ok(None),
+            Ok(Some(passes)) => Ok(Some(DueLemma {
+                number: rule_number(lemma.name),
+                path: Path::from_slice(self.alloc, path)?,
+                terms: subst.terms()?,
+                conds: chains_of(self.alloc, passes)?,
+                subst,
+                right: &lemma.right,
+            })),
+        }
+    }
+
+    // A lemma is put into the whole term, which takes a step. The lemma's right side is built
+    // first, then the term around it.
+    fn put(
+        &self,
+        swept: &mut Swept,
+        due: DueLemma<'_>,
+        budget: &mut u64,
+    ) -> Result<(), RewriteFault>
+        ensures exact { Goes (put_swept (plain_swept swept.old) (plain_due due.entry) budget.old)
+            (plain_swept swept.new) budget.new result }
+        ensures less { budget.new ≤ budget.old }
+    {
+        if *budget == 0 {
+            return Err(RewriteFault::Spent);
+        }
+        let new = match due.subst.apply(due.right) {
+            Ok(new) => new,
+            Err(fault) => return Err(rewrite_fault(fault)),
+        };
+        let whole = match put_at(self.alloc, &swept.whole, due.path.as_slice(), &new) {
+            Ok(whole) => whole,
+            Err(fault) => return Err(rewrite_fault(fault)),
+        };
+        swept.uses.push(HypothesisUse {
+            number: due.number,
+            way: Way::Forth,
+            path: due.path,
+            terms: due.terms,
+            conds: due.conds,
+            new,
+        })?;
+        swept.whole = whole;
+        *budget -= 1;
         Ok(())
     }
 }

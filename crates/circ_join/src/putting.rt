@@ -1,12 +1,14 @@
 //! What uses make of a term.
-ghost use Rattle.circ_plain_search.specs.Joining.{put, put_all, put_counted};
-ghost use Rattle.circ_join.specs.Uses.{plain_use, plain_uses, plain_lemma_use, plain_lemma_uses};
-ghost use Rattle.circ_term.specs.Limits.{IsWithinLimits};
-ghost use Rattle.circ_join.specs.Stopping.{Puts, PutsAt, PutsCounted};
+ghost use Rattle.std.specs.Prelude.{unwrap_or};
+ghost use Rattle.circ_plain_search.specs.Joining.{put, put_all};
+ghost use Rattle.circ_join.specs.Uses.{plain_use, plain_uses};
+ghost use Rattle.circ_term.specs.Limits.{Builds, IsWithinLimits};
+ghost use Rattle.circ_term.specs.Tree.{replaced};
+ghost use Rattle.circ_join.specs.Stopping.{Puts};
 
 use crate::stop::Stop;
-use crate::uses::{HypothesisUse, LemmaUse};
-use circ_term::Term;
+use crate::uses::HypothesisUse;
+use circ_term::{Term, TermFault};
 use std::alloc::Global;
 
 /// The term with the uses of a Join put in, one after another. They are not counted.
@@ -28,51 +30,26 @@ fn put(alloc: Global, whole: &Term, one: &HypothesisUse) -> Result<Term, Stop>
     ensures { Puts (put whole.now (plain_use one.now)) result }
 {
     one.new.known();
-    put_at(alloc, whole, one.path.as_slice(), &one.new)
+    match put_at(alloc, whole, one.path.as_slice(), &one.new) {
+        Ok(made) => Ok(made),
+        Err(fault) => Err(Stop::of_term(fault)),
+    }
 }
 
-fn put_at(alloc: Global, whole: &Term, path: &[u16], new: &Term) -> Result<Term, Stop>
+// The term with this subterm at the path. Where there is no such path it is as before.
+pub(crate) fn put_at(
+    alloc: Global,
+    whole: &Term,
+    path: &[u16],
+    new: &Term,
+) -> Result<Term, TermFault>
     requires within { IsWithinLimits new.now }
-    ensures { PutsAt whole.now path.now new.now result }
+    ensures { Builds result (unwrap_or (replaced whole.now path.now new.now) whole.now) }
 {
     whole.known();
     match whole.replace(alloc, path, new) {
         Ok(Some(made)) => Ok(made),
         Ok(None) => Ok(whole.share()?),
-        Err(fault) => Err(Stop::of_term(fault)),
-    }
-}
-
-/// The term with the uses of a lemma pass put in, one after another. Each is one rewrite step.
-pub fn use_all(
-    alloc: Global,
-    term: &Term,
-    uses: &[LemmaUse],
-    budget: &mut u64,
-) -> Result<Term, Stop>
-    ensures { PutsCounted (put_counted budget.old term.now (plain_lemma_uses uses.now))
-        budget.new result }
-{
-    let mut whole = term.share()?;
-    for one in uses {
-        if *budget == 0 {
-            return Err(Stop::Spent);
-        }
-        *budget -= 1;
-        match use_one(alloc, &whole, one) {
-            Ok(made) => whole = made,
-            Err(stop) => return Err(stop),
-        }
-    }
-    Ok(whole)
-}
-
-// The lemma's right side is built first, then the term around it.
-fn use_one(alloc: Global, whole: &Term, one: &LemmaUse) -> Result<Term, Stop>
-    ensures { Puts (put whole.now (plain_lemma_use one.now)) result }
-{
-    match one.subst.apply(&one.right) {
-        Err(fault) => Err(Stop::of_term(fault)),
-        Ok(new) => put_at(alloc, whole, one.path.as_slice(), &new),
+        Err(fault) => Err(fault),
     }
 }

@@ -83,6 +83,15 @@ impl<'a> Memo<'a> {
         })
     }
 
+    /// The rules, in their order.
+    pub fn rules(&self) -> &[Rule]
+        ensures rules { result.now ≡ self.now.rules }
+        ensures rewrite { AllByRecursion IsRewriteRule result.now }
+        ensures few { length result.now < 2 ^ 32 }
+    {
+        self.work.means.rules.as_slice()
+    }
+
     /// Forgets all normal forms and assumptions, and gives back what they took.
     pub fn forget(&mut self)
         ensures { self.new ≡ record self.old { assumptions = [] } }

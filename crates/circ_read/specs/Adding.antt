@@ -12,7 +12,7 @@ use Rattle.circ_theory.specs.declared.parts.Goal.{Goal}
 use Rattle.circ_theory.specs.Theory.{Theory}
 use Rattle.circ_theory.specs.Adding.{sort_number, op_of_form, sort_fault, var_fault, op_fault, equation_fault, with_sort, with_var, with_op, with_equation}
 use Rattle.circ_theory.specs.Observing.{derivative_fault, with_derivative, cases_fault, with_cases}
-use Rattle.circ_mixfix.specs.Answers.{long_count, first_long, ReadsOnly, ReadsBoth}
+use Rattle.circ_mixfix.specs.Answers.{long_count, first_long, ReadsOnly}
 use Rattle.circ_mixfix.specs.Readings.{ReadsTwos}
 use Rattle.circ_mixfix.specs.Found.{sides_of_pairs}
 use Rattle.circ_statement.specs.Attributes.{Spelled}
@@ -87,14 +87,7 @@ pub record ReadsAlone (too_long : Option ℕ) (Reads : List Tree → Type 0) (ts
   pub reads : Reads ts
   pub only : (us : List Tree) → Reads us → us ≡ ts
 
--- the two sides of a goal, and the term of a derivative
-abbrev pub long_sides : (left right : List (List ℕ)) → Option ℕ
-long_sides left right = option_or (long_count left) (long_count right)
-
-abbrev pub ReadsSides : Theory → (left right : List (List ℕ)) → List Tree → Type 0
-ReadsSides th left right ts = ReadsBoth th.signature th.variables left right ts
-
--- the token lists of an equation, in the order in which they are read: its sides, then those of its conditions
+-- the token lists of an equation or a goal, in the order in which they are read: its sides, then those of its conditions
 abbrev pub condition_lists : List SaidSides → List (List (List ℕ))
 condition_lists [] = []
 condition_lists (s ∷ conds) = s.left ∷ s.right ∷ condition_lists conds
@@ -105,10 +98,11 @@ equation_lists left right conds = left ∷ right ∷ condition_lists conds
 abbrev pub ReadsEquation : Theory → List (List (List ℕ)) → List Tree → Type 0
 ReadsEquation th lists ts = ReadsTwos th.signature th.variables lists ts
 
--- the terms of a goal, or of an equation, in the same order
+-- its terms, in the same order
 abbrev pub goal_terms : Goal → List Tree
 goal_terms g = g.left ∷ g.right ∷ sides_of_pairs g.conds
 
+-- the term of a derivative
 abbrev pub ReadsHole : Theory → (term : List (List ℕ)) → List Tree → Type 0
 ReadsHole th term ts = ReadsOnly th.signature th.variables true term ts
 

@@ -40,8 +40,8 @@ pub(crate) fn add_equation(
     }
 }
 
-// The spans of all terms, in the order in which they are read.
-fn spans_of(
+/// The spans of all terms of an equation or a goal, in the order in which they are read.
+pub fn spans_of(
     alloc: Global,
     left: Span,
     right: Span,

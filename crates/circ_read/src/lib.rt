@@ -24,8 +24,9 @@ mod variables;
 
 pub use body::fault_at;
 pub use cause::{Cause, Fault, ReadFault, because, byte_fault, done};
+pub use equations::spans_of;
 pub use names::{sort_named, word};
 pub use reader::read_theory;
 pub use statement::shape;
-pub use terms::unread;
+pub use terms::{goal_of, unread};
 pub use text::{has_word, next_stop};

@@ -14,8 +14,8 @@ use circ_term::Term;
 use circ_theory::{Goal, Pair, Pairs, Theory};
 use std::alloc::{AllocError, Global};
 
-// The goal that terms are: its sides, then those of its conditions.
-pub(crate) fn goal_of(alloc: Global, terms: &[Term]) -> Result<Option<Goal>, AllocError>
+/// The goal that terms are: its sides, then those of its conditions.
+pub fn goal_of(alloc: Global, terms: &[Term]) -> Result<Option<Goal>, AllocError>
     ensures { IfOk result (λ o. o ≡ goal_of_terms terms.now) }
 {
     let Some((left, rest)) = terms.split_first() else {

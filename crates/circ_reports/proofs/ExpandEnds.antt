@@ -12,7 +12,7 @@ use Rattle.circ_proof.specs.Proof.{Proof}
 use Rattle.circ_entry.specs.Entries.{Written, FitsWritten}
 use Rattle.circ_expand.specs.Expand.{Spending, Yields, Long, Past, Stopped, expansion}
 use Rattle.circ_expand.specs.Pieces.{Pieces}
-use Rattle.circ_expand.specs.Rows.{IsWrittenOut}
+use Rattle.circ_expand.specs.Outcomes.{IsWrittenOut}
 use Rattle.circ_expand.specs.declared.fault.ExpandFault.{ExpandFault}
 use Rattle.circ_expand.specs.declared.fault.ExpandFault.TheVariants as fault
 use Rattle.circ_expand.specs.Goals.{all_goals, goal_misfit, FitGoal}

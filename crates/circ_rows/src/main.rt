@@ -16,7 +16,7 @@ use std::alloc::{AllocError, Global};
 use std::{fs, io};
 
 /// The tables, in the order in which they are run.
-const TABLES: [&str; 30] = [
+const TABLES: [&str; 31] = [
     "rows-words",
     "rows-faults",
     "rows-causes",
@@ -37,6 +37,7 @@ const TABLES: [&str; 30] = [
     "rows-bytes",
     "rows-circular",
     "rows-conditions",
+    "rows-conditional-search",
     "rows-content",
     "rows-changed-contexts",
     "rows-changed-proofs",

@@ -1,35 +1,40 @@
 -- What the functions that take one item answer.
-use Rattle.std.proofs.Common.{◌≡◌, ◌≢◌, ℕ, ◌==◌, not, length, Bool, true, false, arith, List, [], ◌∷◌, ◌++◌, codes, Option, None, Result, Ok}
-use Rattle.std.proofs.Common.{Err, OnOk, IfErr, refl, sym, ap, ◌∙◌, subst}
+use Rattle.std.proofs.Common.{◌≡◌, ◌≢◌, ℕ, ◌==◌, not, length, Bool, true, false, arith, List, [], ◌∷◌, ◌++◌, codes, Option, Some, None, Result, Ok}
+use Rattle.std.proofs.Common.{Err, OnOk, IfErr, inl, inr, refl, sym, ap, ◌∙◌, subst}
+use Rattle.std.specs.Option.{option_map}
 use Rattle.std.proofs.Math.Bool.{beq}
 use Rattle.std.proofs.lemmas.Bool.{eqb-true}
 use Rattle.circ_term.specs.Tree.{Tree}
 use Rattle.circ_lexer.specs.TokenList.{TokenList}
-use Rattle.circ_theory.specs.Theory.{Theory, Pair}
+use Rattle.circ_theory.specs.Theory.{Theory}
+use Rattle.circ_theory.specs.declared.fault.TheoryFault.{TheoryFault}
 use Rattle.circ_theory.specs.declared.parts.Goal.{Goal}
-use Rattle.circ_mixfix.specs.Answers.{long_count, GivesReading}
-use Rattle.circ_mixfix.specs.Found.{terms_of}
+use Rattle.circ_mixfix.specs.Answers.{long_count, first_long, GivesReading}
 use Rattle.circ_mixfix.specs.declared.parse.ParseFault.{ParseFault}
 use Rattle.circ_mixfix.specs.declared.parse.ParseFault.TheVariants as parse
 use Rattle.circ_statement.specs.Words.{Word}
 use Rattle.circ_statement.specs.Said as statement
+use Rattle.circ_statement.specs.Said.{SaidSides}
 use Rattle.circ_statement.specs.Statement.{IsLeftOut}
 use Rattle.circ_read.specs.declared.cause.Cause.{Cause}
 use Rattle.circ_read.specs.declared.cause.Cause.TheVariants as cause
 use Rattle.circ_read.specs.declared.cause.Fault.{Fault}
 use Rattle.circ_read.specs.declared.cause.Fault.TheVariants.{Because, Memory}
-use Rattle.circ_read.specs.Adding.{AddsStatement, ReadsAlone, long_sides, ReadsSides}
-use Rattle.circ_read.specs.Refusing.{RefusesStatement, ReadsNotAlone, too_many_tokens, no_reading, two_readings}
+use Rattle.circ_read.specs.Adding.{AddsStatement, ReadsAlone, equation_lists, ReadsEquation}
+use Rattle.circ_read.specs.Causes.{cause_of}
+use Rattle.circ_read.specs.Outcomes.{goal_of_terms}
+use Rattle.circ_read.specs.Refusing.{RefusesStatement, IsCauseOf, ReadsNotAlone, too_many_tokens, no_reading, two_readings}
 use Rattle.circ_read.specs.Steps.{StepAnswers, SaidOutcome}
+use Rattle.circ_read.proofs.GoalTerms.{goal_read as as_a_goal}
 use Rattle.circ_read.proofs.Once.{SaidOnce}
 use Rattle.circ_script.specs.declared.job.Job.{Job}
 use Rattle.circ_script.specs.declared.adding.Asked.{Asked}
 use Rattle.circ_script.specs.declared.items.FoundItem.{FoundItem}
 use Rattle.circ_script.specs.Items.{variables, goal, reduce, IsItem, IsFor, item_words, begins_with}
 use Rattle.circ_script.specs.Drafts.{Draft}
-use Rattle.circ_script.specs.Adding.{ReadsTerm, AddsItem, bare_goal}
+use Rattle.circ_script.specs.Adding.{ReadsTerm, goal_fault, AddsItem}
 use Rattle.circ_script.specs.Refusing.{reading_text, TakesNoItem, left_out, no_shape, is_refused}
-use Rattle.circ_script.specs.Steps.{item_of, GivesItem, IsNoItem, out, no_item, IsUnread, draft_of, ItemOutcome, TakingOutcome}
+use Rattle.circ_script.specs.Steps.{item_of, GivesItem, IsNoItem, out, no_item, IsUnread, unless_fault, goal_added, terms_added, draft_of, ItemOutcome, TakingOutcome}
 use Rattle.circ_script.proofs.ItemWords.{item_once}
 
 module _ (too_long : Option ℕ) (Reads : List Tree → Type 0) (th : Theory) where
@@ -46,11 +51,13 @@ module _ (too_long : Option ℕ) (Reads : List Tree → Type 0) (th : Theory) wh
   read_alone ts g = record { short = g.0; reads = g.1; only = g.2 }
 
 module _ (d : Draft) where
-  pub goal_unread : (left right : List Word) (fault : ParseFault) (f : Fault) (e : Draft)
-      → GivesReading (Err fault) (long_sides left right) (ReadsSides d.theory left right) → IsUnread f d.theory fault
-      → StepAnswers {U = Unit {0}} (Err f) e (ItemOutcome d (goal left right))
-  goal_unread left right fault (Because c) e g u = not_read (long_sides left right) (ReadsSides d.theory left right) d.theory fault c g u
-  goal_unread left right fault Memory e g u = tt
+  pub goal_unread : (s : SaidSides) (conds : List SaidSides) (fault : ParseFault) (f : Fault) (e : Draft)
+      → GivesReading (Err fault) (first_long (equation_lists s.left s.right conds)) (ReadsEquation d.theory (equation_lists s.left s.right conds))
+      → IsUnread f d.theory fault → StepAnswers {U = Unit {0}} (Err f) e (ItemOutcome d (goal s conds))
+  goal_unread s conds fault (Because c) e g u =
+      let lists = equation_lists s.left s.right conds in
+      inl (not_read (first_long lists) (ReadsEquation d.theory lists) d.theory fault c g u)
+  goal_unread s conds fault Memory e g u = tt
 
   pub term_unread : (term : List Word) (fault : ParseFault) (f : Fault) (e : Draft) → GivesReading (Err fault) (long_count term) (ReadsTerm d.theory term)
       → IsUnread f d.theory fault
@@ -66,20 +73,52 @@ module _ (d : Draft) where
   declared_as names sort (Err (Because c)) u e s h = h
   declared_as names sort (Err Memory) u e s h = tt
 
+-- goals with one more, or why not
+one_ok : (o : Option TheoryFault) (gs hs : List Goal) → Ok hs ≡ unless_fault o gs → (o ≡ None) × (hs ≡ gs)
+one_ok None gs hs e = (refl, cc)
+one_ok (Some f) gs hs e = absurd (cc)
+
+one_err : (o : Option TheoryFault) (gs : List Goal) (c : Cause) → Err c ≡ unless_fault o gs → IsCauseOf o c
+one_err None gs c e = absurd (cc)
+one_err (Some f) gs c e = let s : c ≡ cause_of f = cc in s
+
+pub fault_told : (th : Theory) (gs : List Goal) (ts : List Tree) (g : Goal) (c : Cause) → goal_of_terms ts ≡ Some g
+    → Some c ≡ option_map cause_of (goal_fault th g.conds) → Err c ≡ terms_added th gs ts
+fault_told th gs ts g c is e = go (goal_fault th g.conds) e ∙ sym (ap (goal_added th gs) is)
+  where
+    go : (o : Option TheoryFault) → Some c ≡ option_map cause_of o → Err c ≡ unless_fault o (gs ++ g ∷ [])
+    go None e = absurd (cc)
+    go (Some f) e = let s : c ≡ cause_of f = cc in ap Err s
+
 module _ (th : Theory) (a b : Asked) where
-  -- what was read is a goal more
-  pub goal_read : (left right : List Word) (ts : List Tree) (p : Pair) (r : Result (Unit {0}) Fault) → ts ≡ terms_of p
-      → (long_sides left right ≡ None) × ReadsSides th left right ts × ((us : List Tree) → ReadsSides th left right us → us ≡ ts)
-      → draft_of th b ≡ record (draft_of th a) { goals = b.goals.items }
-      → OnOk r ((q : Pair) → ts ≡ terms_of q → b.goals.items ≡ a.goals.items ++ bare_goal q ∷ [])
-      → IfErr r (λ f. f ≡ Memory) → StepAnswers r (draft_of th b) (ItemOutcome (draft_of th a) (goal left right))
-  goal_read left right ts p (Ok n) e g same pushed fault = record {
-    pair = p;
-    alone = subst (ReadsAlone (long_sides left right) (ReadsSides th left right)) e (read_alone (long_sides left right) (ReadsSides th left right) th ts g);
-    is = same ∙ ap (λ gs. record (draft_of th a) { goals = gs }) (pushed p e);
-  }
-  goal_read left right ts p (Err (Because c)) e g same pushed fault = absurd (cc)
-  goal_read left right ts p (Err Memory) e g same pushed fault = tt
+  module _ (s : SaidSides) (conds : List SaidSides) (ts : List Tree) where
+    abbrev lists : List (List Word)
+    lists = equation_lists s.left s.right conds
+
+    -- what was read is a goal more, or its conditions have a fault
+    pub goal_read : (r : Result (Unit {0}) Fault)
+        → (first_long lists ≡ None) × ReadsEquation th lists ts × ((us : List Tree) → ReadsEquation th lists us → us ≡ ts)
+        → draft_of th b ≡ record (draft_of th a) { goals = b.goals.items }
+        → StepAnswers r b.goals.items (λ q. q ≡ terms_added th a.goals.items ts) → StepAnswers r (draft_of th b) (ItemOutcome (draft_of th a) (goal s conds))
+    goal_read (Ok n) h same e =
+        let g = as_a_goal th s.left s.right conds ts h.1 in
+        let p = one_ok (goal_fault th g.0.conds) _ b.goals.items (e ∙ ap (goal_added th a.goals.items) g.2) in
+        record {
+          says = g.0;
+          alone = subst (ReadsAlone (first_long lists) (ReadsEquation th lists)) g.1 (read_alone (first_long lists) (ReadsEquation th lists) th ts h);
+          no_fault = p.0;
+          is = same ∙ ap (λ gs. record (draft_of th a) { goals = gs }) p.1;
+        }
+    goal_read (Err (Because c)) h same e =
+        let g = as_a_goal th s.left s.right conds ts h.1 in
+        inr (
+          g.0,
+          (
+            subst (ReadsAlone (first_long lists) (ReadsEquation th lists)) g.1 (read_alone (first_long lists) (ReadsEquation th lists) th ts h),
+            one_err (goal_fault th g.0.conds) _ c (e ∙ ap (goal_added th a.goals.items) g.2),
+          ),
+        )
+    goal_read (Err Memory) h same e = tt
 
   -- a term more
   pub term_read : (term : List Word) (ts : List Tree) (t : Tree) (r : Result (Unit {0}) Fault) → ts ≡ t ∷ []

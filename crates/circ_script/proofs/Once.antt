@@ -1,16 +1,19 @@
 -- Bytes read as one script, or have one first cause.
-use Rattle.std.proofs.Common.{◌≡◌, ℕ, ◌<◌, ◌+◌, List, [], ◌∷◌, ◌++◌, codes, Result, Ok, Err, ◌⊎◌, inl, inr, refl, sym, ap, ◌∙◌, subst, arith}
+use Rattle.std.proofs.Common.{◌≡◌, ℕ, ◌<◌, ◌+◌, List, [], ◌∷◌, ◌++◌, codes, Option, Some, None, Result, Ok, Err, ◌⊎◌, inl, inr, refl, sym, ap}
+use Rattle.std.proofs.Common.{◌∙◌, subst, arith}
 use Rattle.std.proofs.lemmas.Bool.{cases_order}
-use Rattle.circ_theory.specs.Theory.{Theory, Pair, pair_with}
-use Rattle.circ_mixfix.specs.Answers.{long_count}
-use Rattle.circ_mixfix.specs.Found.{terms_of}
+use Rattle.circ_theory.specs.Theory.{Theory}
+use Rattle.circ_theory.specs.declared.fault.TheoryFault.{TheoryFault}
+use Rattle.circ_mixfix.specs.Answers.{long_count, first_long}
 use Rattle.circ_statement.specs.Words.{Word}
 use Rattle.circ_statement.specs.Said as statement
 use Rattle.circ_read.specs.declared.cause.Cause.{Cause}
 use Rattle.circ_read.specs.declared.cause.Cause.TheVariants as cause
-use Rattle.circ_read.specs.Causes.{AreAlike, same, ambiguous, byte_cause}
-use Rattle.circ_read.specs.Adding.{long_sides, ReadsSides}
+use Rattle.circ_read.specs.Causes.{AreAlike, same, ambiguous, cause_of, byte_cause}
+use Rattle.circ_read.specs.Adding.{equation_lists, goal_terms, ReadsEquation}
+use Rattle.circ_read.specs.Refusing.{IsCauseOf}
 use Rattle.circ_read.specs.Text.{HasNoStop}
+use Rattle.circ_read.proofs.GoalTerms.{same_goal}
 use Rattle.circ_read.proofs.Once.{SaidOnce, alike_of, ok_same, ok_err}
 use Rattle.circ_read.proofs.Stops.{cut_once, not_cut}
 use Rattle.circ_read.proofs.StatementOnce.{statement_once, alone_or_not, not_alone_once}
@@ -19,7 +22,7 @@ use Rattle.circ_script.specs.declared.job.Job.{Job}
 use Rattle.circ_script.specs.Script.{Script}
 use Rattle.circ_script.specs.Items.{Item, variables, goal, coinduction, reduce, IsItemFor, item_words, left_after}
 use Rattle.circ_script.specs.Drafts.{Draft, first_draft, IsFinished, script_of}
-use Rattle.circ_script.specs.Adding.{ReadsTerm, AddsItem, bare_goal, TakesItem, TakesItems, start, next}
+use Rattle.circ_script.specs.Adding.{ReadsTerm, goal_fault, AddsItem, TakesItem, TakesItems, start, next}
 use Rattle.circ_script.specs.Refusing.{reading_text, RefusesItem, TakesNoItem, left_out, no_shape, is_refused, IsUnfinished, open_goals, no_work}
 use Rattle.circ_script.specs.Refusing.{StopsAt, at_an_item, at_a_cut, at_the_end, FirstScriptCause, at_a_byte, in_the_text}
 use Rattle.circ_script.specs.ReadsAsScript.{ReadsAsScript}
@@ -30,16 +33,22 @@ err_alike : {A B : Type 0} (c d : Cause) → AreAlike {A = A} (Err c) (Err d) �
 err_alike c d same = same
 err_alike c d ambiguous = ambiguous
 
-pair_same : (p q : Pair) → terms_of p ≡ terms_of q → p ≡ q
-pair_same p q e = let l : p.left ≡ q.left = cc in let r : p.right ≡ q.right = cc in λ i. pair_with (l i) (r i)
+-- a fault is one cause
+no_cause : (o : Option TheoryFault) (c : Cause) → o ≡ None → IsCauseOf o c → ⊥
+no_cause None c e h = h
+no_cause (Some f) c e h = cc
+
+one_cause : (o : Option TheoryFault) (b c : Cause) → IsCauseOf o b → IsCauseOf o c → AreAlike {A = Draft} (Err b) (Err c)
+one_cause None b c h k = absurd h
+one_cause (Some f) b c h k = alike_of (Err b) (Err c) (Err (cause_of f)) (ap Err h) (ap Err k)
 
 adds_once : (d : Draft) (i : Item) (e f : Draft) → AddsItem d i e → AddsItem d i f → f ≡ e
 adds_once d (variables names sort) e f h k =
     let t = ok_same e.theory f.theory (statement_once d.theory (statement.variables names sort) (Ok e.theory) (Ok f.theory) h.0 k.0) in
     k.1 ∙ ap (λ th. record d { theory = th }) (sym t) ∙ sym h.1
-adds_once d (goal left right) e f h k =
-    let g = pair_same k.pair h.pair (h.alone.only (terms_of k.pair) k.alone.reads) in
-    k.is ∙ ap (λ g. record d { goals = d.goals ++ bare_goal g ∷ [] }) g ∙ sym h.is
+adds_once d (goal s cs) e f h k =
+    let g = same_goal k.says h.says (h.alone.only (goal_terms k.says) k.alone.reads) in
+    k.is ∙ ap (λ g. record d { goals = d.goals ++ g ∷ [] }) g ∙ sym h.is
 adds_once d coinduction e f h k = k.1 ∙ sym h.1
 adds_once d (reduce term) e f h k =
     let a = h.alone.only (k.term ∷ []) k.alone.reads in
@@ -48,14 +57,28 @@ adds_once d (reduce term) e f h k =
 
 adds_or_refuses : (d : Draft) (i : Item) (e : Draft) (c : Cause) → AddsItem d i e → RefusesItem d i c → ⊥
 adds_or_refuses d (variables names sort) e c h k = ok_err e.theory c (statement_once d.theory (statement.variables names sort) (Ok e.theory) (Err c) h.0 k)
-adds_or_refuses d (goal left right) e c h k = alone_or_not (long_sides left right) (ReadsSides d.theory left right) (reading_text d.theory) (terms_of h.pair)
-    c h.alone k
+adds_or_refuses d (goal s cs) e c h (inl k) =
+    let lists = equation_lists s.left s.right cs in
+    alone_or_not (first_long lists) (ReadsEquation d.theory lists) (reading_text d.theory) (goal_terms h.says) c h.alone k
+adds_or_refuses d (goal s cs) e c h (inr k) =
+    let g = same_goal k.0 h.says (h.alone.only (goal_terms k.0) k.1.0.reads) in
+    no_cause (goal_fault d.theory h.says.conds) c h.no_fault (subst (λ g. IsCauseOf (goal_fault d.theory g.conds) c) g k.1.1)
 adds_or_refuses d coinduction e c h k = h.0 k.0
 adds_or_refuses d (reduce term) e c h k = alone_or_not (long_count term) (ReadsTerm d.theory term) (reading_text d.theory) (h.term ∷ []) c h.alone k
 
 refuses_once : (d : Draft) (i : Item) (b c : Cause) → RefusesItem d i b → RefusesItem d i c → AreAlike {A = Draft} (Err b) (Err c)
 refuses_once d (variables names sort) b c h k = err_alike b c (statement_once d.theory (statement.variables names sort) (Err b) (Err c) h k)
-refuses_once d (goal left right) b c h k = not_alone_once (long_sides left right) (ReadsSides d.theory left right) (reading_text d.theory) b c h k
+refuses_once d (goal s cs) b c (inl h) (inl k) =
+    let lists = equation_lists s.left s.right cs in not_alone_once (first_long lists) (ReadsEquation d.theory lists) (reading_text d.theory) b c h k
+refuses_once d (goal s cs) b c (inl h) (inr k) =
+    let lists = equation_lists s.left s.right cs in
+    absurd (alone_or_not (first_long lists) (ReadsEquation d.theory lists) (reading_text d.theory) (goal_terms k.0) b k.1.0 h)
+refuses_once d (goal s cs) b c (inr h) (inl k) =
+    let lists = equation_lists s.left s.right cs in
+    absurd (alone_or_not (first_long lists) (ReadsEquation d.theory lists) (reading_text d.theory) (goal_terms h.0) c h.1.0 k)
+refuses_once d (goal s cs) b c (inr h) (inr k) =
+    let g = same_goal k.0 h.0 (h.1.0.only (goal_terms k.0) k.1.0.reads) in
+    one_cause (goal_fault d.theory h.0.conds) b c h.1.1 (subst (λ g. IsCauseOf (goal_fault d.theory g.conds) c) g k.1.1)
 refuses_once d coinduction b c h k = alike_of (Err b) (Err c) (Err cause.NoGoal) (ap Err h.1) (ap Err k.1)
 refuses_once d (reduce term) b c h k = not_alone_once (long_count term) (ReadsTerm d.theory term) (reading_text d.theory) b c h k
 

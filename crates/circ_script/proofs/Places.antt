@@ -1,19 +1,15 @@
--- Words at the begin of spans of tokens, and spans split at a word.
-use Rattle.std.proofs.Common.{◌≡◌, ℕ, zero, suc, ◌+◌, ◌-◌, ◌<◌, ◌≤◌, List, [], ◌∷◌, ◌++◌, length, take, drop, slice_range, slice_get, unwrap_or, true}
+-- Words at the begin of spans of tokens.
+use Rattle.std.proofs.Common.{◌≡◌, ℕ, zero, suc, ◌+◌, ◌-◌, ◌<◌, ◌≤◌, List, [], ◌∷◌, length, take, drop, slice_range, slice_get, unwrap_or, true}
 use Rattle.std.proofs.Common.{false, if◌then◌else◌, refl, sym, ap, ◌∙◌, arith}
-use Rattle.std.proofs.Math.Seq.{take-add}
-use Rattle.std.proofs.lemmas.List.{take_rest, drop-drop}
-use Rattle.std.proofs.lemmas.List.Folds.{list_any-append}
+use Rattle.std.proofs.lemmas.List.{take_rest}
 use Rattle.std.proofs.lemmas.Slice.Eq.{bytes_eq-Decides}
 use Rattle.circ_lexer.specs.TokenList.{TokenList, tokens_of, tokens_in, IsWithin}
 use Rattle.circ_lexer.specs.declared.tokens.Span.{Span}
-use Rattle.circ_statement.specs.Words.{Word, is_word, has_word}
+use Rattle.circ_statement.specs.Words.{Word, is_word}
 use Rattle.circ_read.specs.Steps.{has_word_at}
 use Rattle.circ_read.proofs.Tokens.{range_next}
-use Rattle.circ_read.proofs.Places.{range_none, range_more}
-use Rattle.circ_script.specs.declared.spans.Halves.{Halves}
 use Rattle.circ_script.specs.Items.{begins_with, set_aside}
-use Rattle.circ_script.specs.Steps.{IsRestAfter, AreHalves}
+use Rattle.circ_script.specs.Steps.{IsRestAfter}
 use Rattle.circ_script.proofs.Words.{same_word}
 
 tested : (ws : List Word) (n : ℕ) (w : Word) → n < length ws → has_word_at ws n w ≡ is_word (unwrap_or (slice_get ws n) []) w
@@ -59,44 +55,6 @@ aside_found ts span rest w r = (
 pub aside_not : (w : Word) (ws : List Word) → begins_with w ws ≡ false → ws ≡ set_aside w ws
 aside_not w [] e = refl
 aside_not w (v ∷ vs) e = sym (ap (λ b. if b then vs else v ∷ vs) e)
-
-range_split : (ws : List Word) (a b c : ℕ) → a ≤ b → b ≤ c → slice_range ws a c ≡ slice_range ws a b ++ slice_range ws b c
-range_split ws a b c l m =
-    let n : c - a ≡ (b - a) + (c - b) = omega arith in
-    let k : a + (b - a) ≡ b = omega arith in
-    ap (λ k. take k (drop a ws)) n ∙ take-add (b - a) (c - b) (drop a ws)
-    ∙ ap (λ xs. take (b - a) (drop a ws) ++ take (c - b) xs) (drop-drop (b - a) a ws ∙ ap (λ i. drop i ws) k)
-
--- words that do not stand among the first ones
-pub lacks_none : (ts : TokenList) (at : ℕ) (w : Word) → has_word w (slice_range (tokens_of ts) at at) ≡ false
-lacks_none ts at w = ap (has_word w) (range_none (tokens_of ts) at)
-
-pub lacks_more : (ts : TokenList) (at n : ℕ) (w : Word) → at ≤ n → n < length (tokens_of ts) → has_word w (slice_range (tokens_of ts) at n) ≡ false
-    → has_word_at (tokens_of ts) n w ≡ false
-    → has_word w (slice_range (tokens_of ts) at (n + 1)) ≡ false
-lacks_more ts at n w a l h e =
-    let ws = tokens_of ts in
-    let last : is_word (unwrap_or (slice_get ws n) []) w ≡ false = sym (tested ws n w l) ∙ e in
-    ap (has_word w) (range_more ws at n a l) ∙ list_any-append (λ v. is_word v w) (slice_range ws at n) (unwrap_or (slice_get ws n) [] ∷ []) ∙ rw (h, last) refl
-
-pub split_at : (ts : TokenList) (span : Span) (w : Word) (n : ℕ) (s : Halves) → IsWithin ts span → span.from ≤ n → n < span.to → s.left.from ≡ span.from
-    → s.left.to ≡ n → s.right.from ≡ n + 1 → s.right.to ≡ span.to
-    → has_word w (slice_range (tokens_of ts) span.from n) ≡ false → has_word_at (tokens_of ts) n w ≡ true → AreHalves ts span w s
-split_at ts span w n s h a l lf lt rf rt none e =
-    let ws = tokens_of ts in
-    let m = h.within in
-    let is : unwrap_or (slice_get ws n) [] ≡ w = (bytes_eq-Decides _ w).0 (sym (tested ws n w (omega (arith, m, l))) ∙ e) in
-    let left_is : tokens_in ts s.left ≡ slice_range ws span.from n = (λ i. slice_range ws (lf i) (lt i)) in
-    let right_is : tokens_in ts s.right ≡ slice_range ws (n + 1) span.to = (λ i. slice_range ws (rf i) (rt i)) in
-    record {
-      left = record { ahead = omega (arith, a, lf, lt); within = omega (arith, lt, l, m) };
-      right = record { ahead = omega (arith, rf, rt, l); within = omega (arith, rt, m) };
-      words =
-          range_split ws span.from n span.to a (omega (arith, l))
-          ∙ ap (λ xs. slice_range ws span.from n ++ xs) (range_next ws n span.to l m ∙ ap (λ v. v ∷ slice_range ws (n + 1) span.to) is)
-          ∙ ap (λ xs. xs ++ w ∷ slice_range ws (n + 1) span.to) (sym left_is) ∙ ap (λ xs. tokens_in ts s.left ++ w ∷ xs) (sym right_is);
-      first = ap (has_word w) left_is ∙ none;
-    }
 
 -- all tokens from a place on
 pub up_to_the_end : (ts : TokenList) (span : Span) → span.to ≡ length (tokens_of ts) → tokens_in ts span ≡ drop span.from (tokens_of ts)

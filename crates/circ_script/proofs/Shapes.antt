@@ -1,11 +1,16 @@
 -- The words of an item, as the reader takes them apart.
-use Rattle.std.proofs.Common.{◌≡◌, List, [], ◌∷◌, ◌++◌, true, false, codes, Option, Some, None, Result, Ok, Err, inl, inr, refl, sym, ap, ◌∙◌, subst}
-use Rattle.circ_lexer.specs.TokenList.{TokenList}
+use Rattle.std.proofs.Common.{◌≡◌, List, [], ◌∷◌, true, false, codes, Option, Some, None, Result, Ok, Err, inl, inr, refl, sym, ap, subst}
+use Rattle.std.proofs.Common.{map}
+use Rattle.std.specs.Global.{Vec}
+use Rattle.std.specs.List.{AllByRecursion}
+use Rattle.circ_lexer.specs.TokenList.{TokenList, IsWithin}
+use Rattle.circ_statement.specs.declared.statements.Sides.{Sides}
 use Rattle.circ_statement.specs.declared.statements.Statement.{Statement}
 use Rattle.circ_statement.specs.declared.statements.Statement.TheVariants as st
-use Rattle.circ_statement.specs.Words.{Word, has_word, keyword_of}
+use Rattle.circ_statement.specs.Words.{Word, keyword_of}
 use Rattle.circ_statement.specs.Said as statement
-use Rattle.circ_statement.specs.Said.{said_of}
+use Rattle.circ_statement.specs.Said.{SaidSides, sides_of, said_of}
+use Rattle.circ_statement.specs.Statement.{AreSides, AreUnderConditions}
 use Rattle.circ_read.specs.declared.cause.Cause.{Cause}
 use Rattle.circ_read.specs.declared.cause.Cause.TheVariants as cause
 use Rattle.circ_read.specs.declared.cause.Fault.{Fault}
@@ -14,10 +19,11 @@ use Rattle.circ_read.specs.Failing as theory_text
 use Rattle.circ_read.specs.Steps.{IsSaid, GivesShape}
 use Rattle.circ_read.proofs.Once.{SaidOnce}
 use Rattle.circ_script.specs.declared.items.FoundItem.{FoundItem}
-use Rattle.circ_script.specs.Items.{Item, variables, goal, coinduction, reduce, IsItem, begins_with}
+use Rattle.circ_script.specs.declared.items.FoundItem.TheVariants as at_tokens
+use Rattle.circ_script.specs.Items.{Item, variables, goal, coinduction, reduce, IsGoal, bare, conditional, IsItem, begins_with}
 use Rattle.circ_script.specs.Steps.{item_of, shaped, declaration, GivesFound, GivesItem, IsDeclaration, IsNoItem, out, no_item}
-use Rattle.circ_script.proofs.Words.{split_once, has_split, heads_apart}
-use Rattle.circ_script.proofs.ItemWords.{not_out}
+use Rattle.circ_script.proofs.Words.{same_word, heads_apart}
+use Rattle.circ_script.proofs.ItemWords.{not_out, behind_add}
 
 -- other first words than those of a script's items
 pub record IsOther (ws : List Word) : Type 0 where
@@ -32,14 +38,14 @@ other_word ws w rest f t e = let s = ap (begins_with w) e in cc
 -- with another first word an item can only declare variables
 only_declares : (ws : List Word) → IsOther ws → (item : Item) → IsItem ws item → IsDeclaration ws item
 only_declares ws o (variables names sort) h = h
-only_declares ws o (goal left right) h = other_word ws (codes "add") _ o.add refl h.0
+only_declares ws o (goal s cs) h = other_word ws (codes "add") _ o.add refl (behind_add ws s cs h).1
 only_declares ws o coinduction h = other_word ws (codes "coinduction") _ o.coinduction refl h
 only_declares ws o (reduce term) (inl h) = other_word ws (codes "reduce") _ o.reduce refl h
 only_declares ws o (reduce term) (inr h) = other_word ws (codes "red") _ o.red refl h
 
 declares_only : (ws : List Word) (item : Item) → IsDeclaration ws item → IsItem ws item
 declares_only ws (variables names sort) h = h
-declares_only ws (goal left right) h = absurd h
+declares_only ws (goal s cs) h = absurd h
 declares_only ws coinduction h = absurd h
 declares_only ws (reduce term) h = absurd h
 
@@ -63,7 +69,7 @@ module _ (law : SaidOnce) (ts : TokenList) (ws : List Word) where
 
       go : (item : Item) → IsDeclaration ws item → ⊥
       go (variables names sort) k = as_variables s e names sort (law.said ws (said_of ts s) (statement.variables names sort) h.says k)
-      go (goal left right) k = k
+      go (goal s' cs) k = k
       go coinduction k = k
       go (reduce term) k = k
 
@@ -82,7 +88,7 @@ no_statement_as ws c (theory_text.no_shape kept none) = no_item kept go
   where
     go : (item : Item) → IsDeclaration ws item → ⊥
     go (variables names sort) k = none (statement.variables names sort) k
-    go (goal left right) k = k
+    go (goal s cs) k = k
     go coinduction k = k
     go (reduce term) k = k
 
@@ -106,30 +112,54 @@ other_as ts ws o (Err Memory) h = tt
 -- `coinduction` stands alone
 pub alone : (rest : List Word) → (rest ≡ [] → ⊥) → (item : Item) → IsItem (codes "coinduction" ∷ rest) item → ⊥
 alone rest some (variables names sort) h = h
-alone rest some (goal left right) h = heads_apart (codes "coinduction") (codes "add") _ _ refl h.0
+alone rest some (goal s cs) h = heads_apart (codes "coinduction") (codes "add") _ _ refl (behind_add (codes "coinduction" ∷ rest) s cs h).1
 alone rest some coinduction h = some (cc)
 alone rest some (reduce term) (inl h) = heads_apart (codes "coinduction") (codes "reduce") _ _ refl h
 alone rest some (reduce term) (inr h) = heads_apart (codes "coinduction") (codes "red") _ _ refl h
 
 -- what stands after `add` is a goal
-after_add : (rest : List Word) (item : Item) → IsItem (codes "add" ∷ rest) item
-    → (left right : List Word)
-    × ((rest ≡ codes "goal" ∷ (left ++ codes "=" ∷ right)) × (has_word (codes "=") left ≡ false) × (has_word (codes "=") right ≡ false))
-after_add rest (variables names sort) h = absurd h
-after_add rest (goal left right) h = (left, right, (cc, h.1, h.2))
-after_add rest coinduction h = absurd (heads_apart (codes "add") (codes "coinduction") _ _ refl h)
-after_add rest (reduce term) (inl h) = absurd (heads_apart (codes "add") (codes "reduce") _ _ refl h)
-after_add rest (reduce term) (inr h) = absurd (heads_apart (codes "add") (codes "red") _ _ refl h)
+only_goal : (rest : List Word) (P : Item → Type 0) → ((s : SaidSides) (cs : List SaidSides) → IsGoal (codes "add" ∷ rest) s cs → P (goal s cs))
+    → (item : Item) → IsItem (codes "add" ∷ rest) item → P item
+only_goal rest P f (variables names sort) h = absurd h
+only_goal rest P f (goal s cs) h = f s cs h
+only_goal rest P f coinduction h = absurd (heads_apart (codes "add") (codes "coinduction") _ _ refl h)
+only_goal rest P f (reduce term) (inl h) = absurd (heads_apart (codes "add") (codes "reduce") _ _ refl h)
+only_goal rest P f (reduce term) (inr h) = absurd (heads_apart (codes "add") (codes "red") _ _ refl h)
 
-pub more_sides : (rest sides left right first second : List Word) → rest ≡ codes "goal" ∷ sides → sides ≡ left ++ codes "=" ∷ right
-    → has_word (codes "=") left ≡ false
-    → right ≡ first ++ codes "=" ∷ second → (item : Item) → IsItem (codes "add" ∷ rest) item → ⊥
-more_sides rest sides left right first second e s f r item h =
-    let g = after_add rest item h in
-    let t : left ++ codes "=" ∷ right ≡ g.0 ++ codes "=" ∷ g.1 = cc (sym s, sym e ∙ g.2.0) in
-    let k = split_once (codes "=") left g.0 right g.1 t f g.2.1 in
-    let a = has_split (codes "=") first second in
-    let b : has_word (codes "=") right ≡ has_word (codes "=") (first ++ codes "=" ∷ second) = ap (has_word (codes "=")) r in
-    let d : has_word (codes "=") right ≡ has_word (codes "=") g.1 = ap (has_word (codes "=")) k.1 in
-    let n = g.2.2 in
-    cc (sym a, sym b, d, n)
+-- after `add goal` stand sides, and after `add cgoal` sides under conditions
+pub no_sides : (rest : List Word) → ((s : SaidSides) → AreSides rest s → ⊥) → (item : Item) → IsItem (codes "add" ∷ codes "goal" ∷ rest) item → ⊥
+no_sides rest none = only_goal (codes "goal" ∷ rest) (λ i. ⊥) go
+  where
+    go : (s : SaidSides) (cs : List SaidSides) → IsGoal (codes "add" ∷ codes "goal" ∷ rest) s cs → ⊥
+    go s cs (bare r is h) = none s (subst (λ x. AreSides x s) (cc) h)
+    go s cs (conditional r ds is h) = heads_apart (codes "goal") (codes "cgoal") rest r refl (cc)
+
+pub no_conditions : (rest : List Word) → ((s : SaidSides) (cs : List SaidSides) → AreUnderConditions rest s cs → ⊥)
+    → (item : Item) → IsItem (codes "add" ∷ codes "cgoal" ∷ rest) item → ⊥
+no_conditions rest none = only_goal (codes "cgoal" ∷ rest) (λ i. ⊥) go
+  where
+    go : (s : SaidSides) (cs : List SaidSides) → IsGoal (codes "add" ∷ codes "cgoal" ∷ rest) s cs → ⊥
+    go s cs (bare r is h) = heads_apart (codes "cgoal") (codes "goal") rest r refl (cc)
+    go s cs (conditional r ds is h) = none s ds (subst (λ x. AreUnderConditions x s ds) (cc) h)
+
+module _ (ts : TokenList) (rest : List Word) (s : Sides) (conds : Vec Sides) where
+  pub bare_as : conds.items ≡ [] → AreSides rest (sides_of ts s) → IsWithin ts s.left → IsWithin ts s.right
+      → GivesFound (Some (at_tokens.Goal s conds)) ts (IsItem (codes "add" ∷ codes "goal" ∷ rest))
+  bare_as e h l r = (
+    subst (λ cs. IsGoal (codes "add" ∷ codes "goal" ∷ rest) (sides_of ts s) (map (sides_of ts) cs)) (sym e) (bare rest refl h),
+    (l, r, subst (AllByRecursion (λ s. IsWithin ts s.left × IsWithin ts s.right)) (sym e) tt),
+  )
+
+  pub conditional_as : AreUnderConditions rest (sides_of ts s) (map (sides_of ts) conds.items) → IsWithin ts s.left → IsWithin ts s.right
+      → AllByRecursion (λ s. IsWithin ts s.left × IsWithin ts s.right) conds.items
+      → GivesFound (Some (at_tokens.Goal s conds)) ts (IsItem (codes "add" ∷ codes "cgoal" ∷ rest))
+  conditional_as h l r all = (conditional rest (map (sides_of ts) conds.items) refl h, (l, r, all))
+
+-- another word than `goal` and `cgoal`
+pub no_goal_word : (rest : List Word) → begins_with (codes "goal") rest ≡ false → begins_with (codes "cgoal") rest ≡ false
+    → (item : Item) → IsItem (codes "add" ∷ rest) item → ⊥
+no_goal_word rest a b = only_goal rest (λ i. ⊥) go
+  where
+    go : (s : SaidSides) (cs : List SaidSides) → IsGoal (codes "add" ∷ rest) s cs → ⊥
+    go s cs (bare r is h) = other_word rest (codes "goal") r a (same_word (codes "goal")) (cc)
+    go s cs (conditional r ds is h) = other_word rest (codes "cgoal") r b (same_word (codes "cgoal")) (cc)

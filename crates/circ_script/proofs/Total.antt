@@ -1,26 +1,31 @@
 -- Bytes read as a script or have a first cause, by double negation.
 use Rattle.std.proofs.Common.{◌≡◌, ◌≢◌, ℕ, zero, suc, ◌+◌, ◌<◌, ◌≤◌, List, [], ◌∷◌, length, Bool, true, false, codes, if◌then◌else◌, Option, Some}
-use Rattle.std.proofs.Common.{None, ◌⊎◌, inl, inr, refl, subst, arith}
+use Rattle.std.proofs.Common.{None, ◌⊎◌, inl, inr, refl, sym, subst, arith}
 use Rattle.circ_lexer.specs.declared.tokens.Span.{Span}
 use Rattle.circ_lexer.specs.declared.fault.LexFault.{LexFault}
 use Rattle.circ_lexer.specs.Cuts.{Cuts}
 use Rattle.circ_lexer.specs.TokenList.{AreTokens, tokens_of}
 use Rattle.circ_term.specs.Tree.{Tree}
-use Rattle.circ_theory.specs.Theory.{Theory, pair_with}
-use Rattle.circ_mixfix.specs.Answers.{long_count}
+use Rattle.circ_theory.specs.Theory.{Theory}
+use Rattle.circ_theory.specs.declared.fault.TheoryFault.{TheoryFault}
+use Rattle.circ_theory.specs.declared.parts.Goal.{Goal}
+use Rattle.circ_mixfix.specs.Answers.{long_count, first_long}
 use Rattle.circ_statement.specs.Words.{Word, is_word}
 use Rattle.circ_statement.specs.Said as statement
+use Rattle.circ_statement.specs.Said.{SaidSides}
 use Rattle.circ_statement.specs.Statement.{IsLeftOut}
 use Rattle.circ_read.specs.declared.cause.Cause.{Cause}
 use Rattle.circ_read.specs.declared.cause.Cause.TheVariants as cause
-use Rattle.circ_read.specs.Causes.{byte_cause}
-use Rattle.circ_read.specs.Adding.{ReadsAlone, long_sides, ReadsSides}
+use Rattle.circ_read.specs.Causes.{cause_of, byte_cause}
+use Rattle.circ_read.specs.Adding.{ReadsAlone, equation_lists, goal_terms, ReadsEquation}
+use Rattle.circ_read.specs.Refusing.{IsCauseOf}
 use Rattle.circ_read.specs.Text.{HasNoStop}
+use Rattle.circ_read.proofs.GoalTerms.{goal_read}
 use Rattle.circ_read.proofs.Total.{Either, Cut, first_stop, statement_total, terms_total}
 use Rattle.circ_script.specs.declared.job.Job.{Job}
 use Rattle.circ_script.specs.Items.{Item, variables, goal, coinduction, reduce, item_words, set_aside, left_after}
 use Rattle.circ_script.specs.Drafts.{Draft, first_draft, IsFinished, script_of}
-use Rattle.circ_script.specs.Adding.{ReadsTerm, AddsItem, TakesItem, TakesItems, start, next}
+use Rattle.circ_script.specs.Adding.{ReadsTerm, goal_fault, AddsItem, TakesItem, TakesItems, start, next}
 use Rattle.circ_script.specs.Refusing.{reading_text, RefusesItem, TakesNoItem, left_out, no_shape, is_refused, open_goals, no_work, StopsAt}
 use Rattle.circ_script.specs.Refusing.{at_an_item, at_a_cut, at_the_end, at_a_byte, in_the_text}
 use Rattle.circ_script.specs.ReadsAsScript.{ScriptOrCause}
@@ -29,16 +34,24 @@ none_or_some : {A : Type 0} (xs : List A) → (xs ≡ []) ⊎ (xs ≢ [])
 none_or_some [] = inl refl
 none_or_some (x ∷ xs) = inr (λ e. cc)
 
-module _ (d : Draft) where
-  goal_total : (left right : List Word) → Either (AddsItem d (goal left right)) (RefusesItem d (goal left right))
-  goal_total left right accepted refused = terms_total (long_sides left right) (ReadsSides d.theory left right) (reading_text d.theory) go refused
-    where
-      go : (ts : List Tree) → ReadsAlone (long_sides left right) (ReadsSides d.theory left right) ts → ⊥
-      go [] h = let z = h.reads.2 in cc
-      go (t ∷ []) h = let z = h.reads.2 in cc
-      go (t ∷ u ∷ []) h = accepted _ (record { pair = pair_with t u; alone = h; is = refl })
-      go (t ∷ u ∷ v ∷ ts) h = let z = h.reads.2 in cc
+module _ (d : Draft) (s : SaidSides) (cs : List SaidSides) where
+  abbrev lists : List (List Word)
+  lists = equation_lists s.left s.right cs
 
+  abbrev Alone : List Tree → Type 0
+  Alone ts = ReadsAlone (first_long lists) (ReadsEquation d.theory lists) ts
+
+  goal_total : Either (AddsItem d (goal s cs)) (RefusesItem d (goal s cs))
+  goal_total accepted refused = terms_total (first_long lists) (ReadsEquation d.theory lists) (reading_text d.theory) go (λ c h. refused c (inl h))
+    where
+      faulted : (g : Goal) → Alone (goal_terms g) → (o : Option TheoryFault) → goal_fault d.theory g.conds ≡ o → ⊥
+      faulted g h None e = accepted _ (record { says = g; alone = h; no_fault = e; is = refl })
+      faulted g h (Some f) e = refused (cause_of f) (inr (g, (h, subst (λ o. IsCauseOf o (cause_of f)) (sym e) refl)))
+
+      go : (ts : List Tree) → Alone ts → ⊥
+      go ts h = let g = goal_read d.theory s.left s.right cs ts h.reads in faulted g.0 (subst Alone g.1 h) (goal_fault d.theory g.0.conds) refl
+
+module _ (d : Draft) where
   term_total : (term : List Word) → Either (AddsItem d (reduce term)) (RefusesItem d (reduce term))
   term_total term accepted refused = terms_total (long_count term) (ReadsTerm d.theory term) (reading_text d.theory) go refused
     where
@@ -50,7 +63,7 @@ module _ (d : Draft) where
   item_total : (i : Item) → Either (AddsItem d i) (RefusesItem d i)
   item_total (variables names sort) accepted refused =
       statement_total d.theory (statement.variables names sort) (λ u h. accepted (record d { theory = u }) (h, refl)) refused
-  item_total (goal left right) accepted refused = goal_total left right accepted refused
+  item_total (goal s cs) accepted refused = goal_total d s cs accepted refused
   item_total coinduction accepted refused = go (none_or_some d.goals)
     where
       go : (d.goals ≡ []) ⊎ (d.goals ≢ []) → ⊥

@@ -24,12 +24,13 @@ use Rattle.circ_script.specs.Adding.{TakesItem, TakesItems, start, next}
 use Rattle.circ_script.specs.Refusing.{TakesNoItem, StopsAt, at_an_item, at_a_cut, at_the_end, FirstScriptCause, at_a_byte, in_the_text}
 use Rattle.circ_script.specs.ReadsAsScript.{GivesScript}
 use Rattle.circ_script.specs.Steps.{TakingOutcome, GivesEnd, GivesDraft, GivesScriptFrom}
+use Rattle.circ_script.proofs.ItemWords.{behind_add}
 use Rattle.circ_script.proofs.Places.{none_in, up_to_the_end}
 
 -- an item has a word
 no_words : (item : Item) → IsItem [] item → ⊥
 no_words (variables names sort) h = h
-no_words (goal left right) h = let e = h.0 in cc
+no_words (goal s cs) h = let e = (behind_add [] s cs h).1 in cc
 no_words coinduction h = cc
 no_words (reduce term) (inl h) = cc
 no_words (reduce term) (inr h) = cc

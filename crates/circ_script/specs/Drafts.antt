@@ -4,7 +4,7 @@ use Rattle.circ_term.specs.Tree.{Tree}
 use Rattle.circ_theory.specs.declared.parts.Goal.{Goal}
 use Rattle.circ_theory.specs.Theory.{Theory}
 use Rattle.circ_script.specs.declared.job.Job.{Job}
-use Rattle.circ_script.specs.declared.job.Job.TheVariants.{Prove, Reduce}
+use Rattle.circ_script.specs.declared.job.Job.TheVariants.{Prove, Differ, Reduce}
 use Rattle.circ_script.specs.Script.{Script}
 
 -- the theory, in which the script's variables are declared after its own; the closed blocks; the goals since the last of them; the terms
@@ -21,6 +21,7 @@ first_draft th = record { theory = th; blocks = []; goals = []; terms = [] }
 -- There is what the job is done on.
 abbrev pub AsksFor : Job → Draft → Type 0
 AsksFor Prove d = d.blocks ≢ []
+AsksFor Differ d = d.blocks ≢ []
 AsksFor Reduce d = d.terms ≢ []
 
 -- No goal is open, and there is work.

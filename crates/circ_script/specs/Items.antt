@@ -1,32 +1,43 @@
 -- The items of a script: what their words say, and how they stand among the tokens.
-use Rattle.std.specs.Prelude.{◌≡◌, ◌⊎◌, List, [], ◌∷◌, ◌++◌, Bool, false, if◌then◌else◌, codes}
-use Rattle.circ_statement.specs.Words.{Word, is_word, has_word}
+use Rattle.std.specs.Prelude.{◌≡◌, ◌⊎◌, List, [], ◌∷◌, Bool, false, if◌then◌else◌, codes}
+use Rattle.circ_statement.specs.Words.{Word, is_word}
 use Rattle.circ_statement.specs.Said as statement
-use Rattle.circ_statement.specs.Statement.{IsStatement, IsLeftOut}
+use Rattle.circ_statement.specs.Said.{SaidSides}
+use Rattle.circ_statement.specs.Statement.{IsStatement, IsLeftOut, AreSides, AreUnderConditions}
 use Rattle.circ_script.specs.declared.job.Job.{Job}
-use Rattle.circ_script.specs.declared.job.Job.TheVariants.{Prove, Reduce}
+use Rattle.circ_script.specs.declared.job.Job.TheVariants.{Prove, Differ, Reduce}
 
 -- what an item says, by the words of its text, without any theory
 pub data Item : Type 0 where
   variables : (names : List Word) (sort : Word) → Item
-  goal : (left right : List Word) → Item
+  goal : (sides : SaidSides) (conds : List SaidSides) → Item
   coinduction : Item
   reduce : (term : List Word) → Item
 
--- What the words of an item say, without its parentheses and its stop. Variables are declared by a statement of a theory text; a goal has one
--- equals sign, between its sides.
+-- A goal has one equals sign, between its sides; or it is cut as a `ceq` is, into sides and conditions.
+pub data IsGoal (ws : List Word) (sides : SaidSides) : (conds : List SaidSides) → Type 0 where
+  bare : (rest : List Word) → ws ≡ codes "add" ∷ codes "goal" ∷ rest → AreSides rest sides → IsGoal ws sides []
+  conditional : (rest : List Word) (conds : List SaidSides) → ws ≡ codes "add" ∷ codes "cgoal" ∷ rest → AreUnderConditions rest sides conds
+      → IsGoal ws sides conds
+
+-- What the words of an item say, without its parentheses and its stop. Variables are declared by a statement of a theory text.
 abbrev pub IsItem : List Word → Item → Type 0
 IsItem ws (variables names sort) = IsStatement ws (statement.variables names sort)
-IsItem ws (goal left right) =
-    (ws ≡ codes "add" ∷ codes "goal" ∷ (left ++ codes "=" ∷ right)) × (has_word (codes "=") left ≡ false) × (has_word (codes "=") right ≡ false)
+IsItem ws (goal sides conds) = IsGoal ws sides conds
 IsItem ws coinduction = ws ≡ codes "coinduction" ∷ []
 IsItem ws (reduce term) = (ws ≡ codes "reduce" ∷ term) ⊎ (ws ≡ codes "red" ∷ term)
 
--- what a script may ask for: to prove goals, or to reduce terms
+-- goals are proved, or told apart
+abbrev pub IsForGoals : Job → Type 0
+IsForGoals Prove = Unit {0}
+IsForGoals Differ = Unit {0}
+IsForGoals Reduce = ⊥
+
+-- what a script may ask for: to prove goals, to tell the sides of goals without conditions apart, or to reduce terms
 abbrev pub IsFor : Job → Item → Type 0
 IsFor job (variables names sort) = Unit {0}
-IsFor job (goal left right) = job ≡ Prove
-IsFor job coinduction = job ≡ Prove
+IsFor job (goal sides conds) = IsForGoals job × (job ≡ Differ → conds ≡ [])
+IsFor job coinduction = IsForGoals job
 IsFor job (reduce term) = job ≡ Reduce
 
 -- whether the first word is this one

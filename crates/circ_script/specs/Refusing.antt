@@ -1,33 +1,40 @@
 -- Why a script is refused: its first cause, and the number of the item.
-use Rattle.std.specs.Prelude.{◌≡◌, ◌≢◌, ℕ, ◌+◌, List, [], ◌∷◌, ◌++◌, false, codes}
+use Rattle.std.specs.Prelude.{◌≡◌, ◌≢◌, ◌⊎◌, ℕ, ◌+◌, List, [], ◌∷◌, ◌++◌, false, codes}
 use Rattle.circ_term.specs.Tree.{Tree}
 use Rattle.circ_lexer.specs.declared.fault.LexFault.{LexFault}
 use Rattle.circ_lexer.specs.Cuts.{IsFirstBad}
 use Rattle.circ_lexer.specs.TokenList.{AreTokens}
 use Rattle.circ_theory.specs.Theory.{Theory}
-use Rattle.circ_mixfix.specs.Answers.{long_count}
+use Rattle.circ_theory.specs.declared.parts.Goal.{Goal}
+use Rattle.circ_mixfix.specs.Answers.{long_count, first_long}
 use Rattle.circ_statement.specs.Words.{Word}
 use Rattle.circ_statement.specs.Said as statement
 use Rattle.circ_statement.specs.Statement.{IsLeftOut}
 use Rattle.circ_read.specs.declared.cause.Cause.{Cause}
 use Rattle.circ_read.specs.declared.cause.Cause.TheVariants as cause
 use Rattle.circ_read.specs.Causes.{byte_cause}
-use Rattle.circ_read.specs.Adding.{long_sides, ReadsSides}
-use Rattle.circ_read.specs.Refusing.{RefusesStatement, ReadsNotAlone, shown_text}
+use Rattle.circ_read.specs.Adding.{ReadsAlone, equation_lists, goal_terms, ReadsEquation}
+use Rattle.circ_read.specs.Refusing.{RefusesStatement, ReadsNotAlone, IsCauseOf, shown_text}
 use Rattle.circ_read.specs.Text.{HasNoStop}
 use Rattle.circ_script.specs.declared.job.Job.{Job}
 use Rattle.circ_script.specs.Items.{Item, variables, goal, coinduction, reduce, IsItemFor, item_words}
 use Rattle.circ_script.specs.Drafts.{Draft, first_draft, AsksFor}
-use Rattle.circ_script.specs.Adding.{ReadsTerm, TakesItems}
+use Rattle.circ_script.specs.Adding.{ReadsTerm, goal_fault, TakesItems}
 
--- a term as it is printed, and the two sides of a goal
+-- a term as it is printed, and a goal
 abbrev pub reading_text : Theory → List Tree → List ℕ
 reading_text th ts = shown_text false th ts
+
+-- The token lists of a goal do not read as the only terms, or else its conditions have a fault.
+abbrev pub RefusesGoal : Theory → List (List Word) → Cause → Type 0
+RefusesGoal th lists c =
+    ReadsNotAlone (first_long lists) (ReadsEquation th lists) (reading_text th) c
+    ⊎ ((g : Goal) × (ReadsAlone (first_long lists) (ReadsEquation th lists) (goal_terms g) × IsCauseOf (goal_fault th g.conds) c))
 
 -- What an item says has this first cause.
 abbrev pub RefusesItem : Draft → Item → Cause → Type 0
 RefusesItem d (variables names sort) c = RefusesStatement d.theory (statement.variables names sort) c
-RefusesItem d (goal left right) c = ReadsNotAlone (long_sides left right) (ReadsSides d.theory left right) (reading_text d.theory) c
+RefusesItem d (goal sides conds) c = RefusesGoal d.theory (equation_lists sides.left sides.right conds) c
 RefusesItem d coinduction c = (d.goals ≡ []) × (c ≡ cause.NoGoal)
 RefusesItem d (reduce term) c = ReadsNotAlone (long_count term) (ReadsTerm d.theory term) (reading_text d.theory) c
 

@@ -1,15 +1,20 @@
 -- What the steps of the reader answer.
 use Rattle.std.specs.Prelude.{◌≡◌, ◌⊎◌, ◌<◌, ◌≤◌, ◌+◌, ℕ, List, [], ◌∷◌, ◌++◌, false, map, codes, Option, Some, None, Result, Ok, Err}
+use Rattle.std.specs.List.{AllByRecursion}
 use Rattle.circ_lexer.specs.TokenList.{TokenList, tokens_in, IsWithin}
 use Rattle.circ_lexer.specs.declared.tokens.Span.{Span}
+use Rattle.circ_term.specs.Tree.{Tree}
 use Rattle.circ_theory.specs.Theory.{Theory}
+use Rattle.circ_theory.specs.declared.fault.TheoryFault.{TheoryFault}
+use Rattle.circ_theory.specs.declared.parts.Goal.{Goal}
 use Rattle.circ_script.specs.declared.script.Script as made
 use Rattle.circ_mixfix.specs.declared.parse.ParseFault.{ParseFault}
+use Rattle.circ_statement.specs.declared.statements.Sides.{Sides}
 use Rattle.circ_statement.specs.declared.statements.Statement.{Statement}
 use Rattle.circ_statement.specs.declared.statements.Statement.TheVariants as said
-use Rattle.circ_statement.specs.Words.{Word, has_word}
+use Rattle.circ_statement.specs.Words.{Word}
 use Rattle.circ_statement.specs.Said as statement
-use Rattle.circ_statement.specs.Said.{token_at, IsPlace}
+use Rattle.circ_statement.specs.Said.{sides_of, token_at, IsPlace}
 use Rattle.circ_statement.specs.Statement.{IsStatement, IsLeftOut}
 use Rattle.circ_read.specs.declared.cause.Cause.{Cause}
 use Rattle.circ_read.specs.declared.cause.Cause.TheVariants as cause
@@ -17,17 +22,19 @@ use Rattle.circ_read.specs.declared.cause.Fault.{Fault}
 use Rattle.circ_read.specs.declared.cause.Fault.TheVariants.{Because, Memory}
 use Rattle.circ_read.specs.declared.cause.ReadFault.{ReadFault}
 use Rattle.circ_read.specs.declared.cause.ReadFault.TheVariants as at
+use Rattle.circ_read.specs.Causes.{cause_of}
 use Rattle.circ_read.specs.Includes.{with_variables}
+use Rattle.circ_read.specs.Outcomes.{goal_of_terms}
 use Rattle.circ_read.specs.Steps.{IsNoReading}
 use Rattle.circ_script.specs.declared.job.Job.{Job}
+use Rattle.circ_script.specs.declared.job.Job.TheVariants.{Differ}
 use Rattle.circ_script.specs.declared.adding.Asked.{Asked}
 use Rattle.circ_script.specs.declared.items.FoundItem.{FoundItem}
 use Rattle.circ_script.specs.declared.items.FoundItem.TheVariants as at_tokens
-use Rattle.circ_script.specs.declared.spans.Halves.{Halves}
 use Rattle.circ_script.specs.Script.{plain_script}
-use Rattle.circ_script.specs.Items.{Item, variables, goal, coinduction, reduce, IsItem, begins_with}
+use Rattle.circ_script.specs.Items.{Item, variables, goal, coinduction, reduce, IsItem, IsForGoals, begins_with}
 use Rattle.circ_script.specs.Drafts.{Draft, IsFinished, script_of}
-use Rattle.circ_script.specs.Adding.{AddsItem, TakesItem, TakesItems}
+use Rattle.circ_script.specs.Adding.{goal_fault, AddsItem, TakesItem, TakesItems}
 use Rattle.circ_script.specs.Refusing.{RefusesItem, TakesNoItem, IsUnfinished, StopsAt}
 
 -- the second theory is the first, perhaps with other variables
@@ -45,28 +52,18 @@ abbrev pub GivesRest : Option Span → TokenList → Span → Word → Type 0
 GivesRest None ts span w = begins_with w (tokens_in ts span) ≡ false
 GivesRest (Some rest) ts span w = IsRestAfter ts span rest w
 
--- what stands before and after the first such word
-pub record AreHalves (ts : TokenList) (span : Span) (w : Word) (s : Halves) : Type 0 where
-  pub left : IsWithin ts s.left
-  pub right : IsWithin ts s.right
-  pub words : tokens_in ts span ≡ tokens_in ts s.left ++ w ∷ tokens_in ts s.right
-  pub first : has_word w (tokens_in ts s.left) ≡ false
-
-abbrev pub GivesHalves : Option Halves → TokenList → Span → Word → Type 0
-GivesHalves None ts span w = has_word w (tokens_in ts span) ≡ false
-GivesHalves (Some s) ts span w = AreHalves ts span w s
-
 -- what an item of the code says
 abbrev pub item_of : TokenList → FoundItem → Item
 item_of ts (at_tokens.Variables names sort) = variables (tokens_in ts names) (token_at ts sort)
-item_of ts (at_tokens.Goal left right) = goal (tokens_in ts left) (tokens_in ts right)
+item_of ts (at_tokens.Goal sides conds) = goal (sides_of ts sides) (map (sides_of ts) conds.items)
 item_of ts at_tokens.Coinduction = coinduction
 item_of ts (at_tokens.Reduce term) = reduce (tokens_in ts term)
 
 -- Its places and spans lie within the tokens.
 abbrev pub LieWithin : TokenList → FoundItem → Type 0
 LieWithin ts (at_tokens.Variables names sort) = IsWithin ts names × IsPlace ts sort
-LieWithin ts (at_tokens.Goal left right) = IsWithin ts left × IsWithin ts right
+LieWithin ts (at_tokens.Goal sides conds) =
+    IsWithin ts sides.left × IsWithin ts sides.right × AllByRecursion (λ s. IsWithin ts s.left × IsWithin ts s.right) conds.items
 LieWithin ts at_tokens.Coinduction = Unit {0}
 LieWithin ts (at_tokens.Reduce term) = IsWithin ts term
 
@@ -74,6 +71,10 @@ LieWithin ts (at_tokens.Reduce term) = IsWithin ts term
 abbrev pub GivesFound : Option FoundItem → TokenList → (Item → Type 0) → Type 0
 GivesFound None ts Is = (item : Item) → Is item → ⊥
 GivesFound (Some p) ts Is = Is (item_of ts p) × LieWithin ts p
+
+-- whether a script for a job may have a goal with these conditions
+abbrev pub MayHaveGoal : Job → List Sides → Type 0
+MayHaveGoal job conds = IsForGoals job × (job ≡ Differ → conds ≡ [])
 
 -- the tokens of a term that is to be reduced
 abbrev pub GivesTerm : Option Span → TokenList → List Word → Type 0
@@ -83,7 +84,7 @@ GivesTerm (Some term) ts ws = IsItem ws (reduce (tokens_in ts term)) × IsWithin
 -- The words declare variables.
 abbrev pub IsDeclaration : List Word → Item → Type 0
 IsDeclaration ws (variables names sort) = IsStatement ws (statement.variables names sort)
-IsDeclaration ws (goal left right) = ⊥
+IsDeclaration ws (goal sides conds) = ⊥
 IsDeclaration ws coinduction = ⊥
 IsDeclaration ws (reduce term) = ⊥
 
@@ -114,6 +115,19 @@ shaped (Some p) = Ok p
 -- the cause that a fault of reading terms is, or out of memory
 abbrev pub IsUnread : Fault → Theory → ParseFault → Type 0
 IsUnread f th fault = IsNoReading false f th fault
+
+-- the goals with one more, where its conditions have no fault
+abbrev pub unless_fault : Option TheoryFault → List Goal → Result (List Goal) Cause
+unless_fault None gs = Ok gs
+unless_fault (Some f) gs = Err (cause_of f)
+
+abbrev pub goal_added : Theory → List Goal → Option Goal → Result (List Goal) Cause
+goal_added th gs None = Err cause.NoParse
+goal_added th gs (Some g) = unless_fault (goal_fault th g.conds) (gs ++ g ∷ [])
+
+-- the goals with the one that the terms are
+abbrev pub terms_added : Theory → List Goal → List Tree → Result (List Goal) Cause
+terms_added th gs ts = goal_added th gs (goal_of_terms ts)
 
 -- the draft of what was asked for, in a theory
 abbrev pub draft_of : Theory → Asked → Draft

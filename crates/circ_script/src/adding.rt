@@ -1,23 +1,25 @@
 //! What the items of a script ask for.
-ghost use Rattle.std.specs.Prelude.{◌≡◌, ◌++◌, ◌∷◌, [], IfErr, OnOk};
+ghost use Rattle.std.specs.Prelude.{◌≡◌, ◌++◌, ◌∷◌, [], IfErr, OnOk, map};
+ghost use Rattle.std.specs.List.{AllByRecursion};
 ghost use Rattle.circ_lexer.specs.TokenList.{tokens_in, IsWithin};
 ghost use Rattle.circ_term.specs.Tree.{Tree};
-ghost use Rattle.circ_theory.specs.Theory.{Theory, Pair};
-ghost use Rattle.circ_mixfix.specs.Found.{terms_of};
+ghost use Rattle.circ_theory.specs.Theory.{Theory};
+ghost use Rattle.circ_statement.specs.Said.{sides_of};
 ghost use Rattle.circ_read.specs.declared.cause.Fault.TheVariants.{Memory};
 ghost use Rattle.circ_read.specs.Steps.{StepAnswers};
-ghost use Rattle.circ_script.specs.Adding.{bare_goal};
 ghost use Rattle.circ_script.specs.Items.{goal, coinduction, reduce};
 ghost use Rattle.circ_script.specs.Steps.{draft_of, item_of, ItemOutcome, LieWithin};
 ghost use Rattle.circ_script.specs.Steps.{IsButVariables};
 
+use crate::goals::push_goal;
 use crate::items::FoundItem;
 use crate::variables::add_variables;
 use circ_lexer::{Span, Tokens};
-use circ_mixfix::{parse_one_declared, parse_pair_declared};
-use circ_read::{Cause, Fault, because, unread};
+use circ_mixfix::{parse_list_declared, parse_one_declared};
+use circ_read::{Cause, Fault, because, spans_of, unread};
+use circ_statement::Sides;
 use circ_term::Term;
-use circ_theory::{Goal, Pairs, Theory};
+use circ_theory::{Goal, Theory};
 use std::alloc::Global;
 use std::mem::replace;
 
@@ -45,7 +47,9 @@ pub(crate) fn add_item(
 {
     match item {
         FoundItem::Variables { names, sort } => add_variables(theory, tokens, names, sort),
-        FoundItem::Goal { left, right } => add_goal(alloc, theory, asked, tokens, left, right),
+        FoundItem::Goal { sides, conds } => {
+            add_goal(alloc, theory, asked, tokens, sides, &conds)
+        }
         FoundItem::Coinduction => close_block(alloc, asked),
         FoundItem::Reduce { term } => add_term(alloc, theory, asked, tokens, term),
     }
@@ -56,39 +60,22 @@ fn add_goal(
     theory: &Theory,
     asked: &mut Asked,
     tokens: &Tokens<'_>,
-    left: Span,
-    right: Span,
+    sides: Sides,
+    conds: &[Sides],
 ) -> Result<(), Fault>
-    requires left { IsWithin tokens.now left }
-    requires right { IsWithin tokens.now right }
+    requires left { IsWithin tokens.now sides.left }
+    requires right { IsWithin tokens.now sides.right }
+    requires conds { AllByRecursion (λ s. IsWithin tokens.now s.left × IsWithin tokens.now s.right)
+        conds.now }
     ensures { StepAnswers result (draft_of theory.now asked.new)
         (ItemOutcome (draft_of theory.now asked.old)
-        (goal (tokens_in tokens.now left) (tokens_in tokens.now right))) }
+        (goal (sides_of tokens.now sides) (map (sides_of tokens.now) conds.now))) }
 {
-    match parse_pair_declared(alloc, theory, tokens, left, right) {
-        Ok(reading) => push_goal(alloc, &mut asked.goals, reading.terms),
+    let spans = spans_of(alloc, sides.left, sides.right, conds)?;
+    match parse_list_declared(alloc, theory, tokens, &spans) {
+        Ok(reading) => push_goal(alloc, theory, &mut asked.goals, &reading.terms),
         Err(fault) => Err(unread(alloc, theory, false, fault)),
     }
-}
-
-// Adds the goal of two sides, without conditions.
-fn push_goal(alloc: Global, goals: &mut Vec<Goal>, terms: Vec<Term>) -> Result<(), Fault>
-    requires { (p : Pair) × (terms.items ≡ terms_of p) }
-    ensures pushed { OnOk result ((p : Pair) → terms.items ≡ terms_of p →
-        goals.new.items ≡ goals.old.items ++ bare_goal p ∷ []) }
-    ensures fault { IfErr result (λ f. f ≡ Memory) }
-{
-    let mut terms = terms;
-    let right = terms.pop();
-    let left = terms.pop();
-    match (left, right) {
-        (Some(left), Some(right)) => {
-            let conds = Pairs::new(alloc);
-            goals.push(Goal { conds, left, right })?
-        }
-        _ => unreachable!(),
-    }
-    Ok(())
 }
 
 // Makes the goals since the last block a block.

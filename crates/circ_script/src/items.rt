@@ -1,22 +1,22 @@
 //! One item of a script, read from its words.
-ghost use Rattle.std.specs.Prelude.{◌≡◌, ◌↔◌, ◌∷◌, IsTrue, codes};
+ghost use Rattle.std.specs.Prelude.{◌≡◌, ◌↔◌, ◌∷◌, IsTrue, IfOk, codes};
 ghost use Rattle.circ_lexer.specs.TokenList.{TokenList, tokens_in, IsWithin};
 ghost use Rattle.circ_script.specs.Items.{IsItem, IsFor};
 ghost use Rattle.circ_script.specs.Steps.{item_of, shaped, GivesItem, GivesFound, GivesTerm};
-ghost use Rattle.circ_script.specs.Steps.{declaration, IsDeclaration};
+ghost use Rattle.circ_script.specs.Steps.{declaration, IsDeclaration, MayHaveGoal};
 
 use crate::Job;
-use crate::spans::{after, split};
+use crate::spans::after;
 use circ_lexer::{Span, Tokens};
 use circ_read::{Cause, Fault, because, shape};
-use circ_statement::Statement;
-use std::alloc::Global;
+use circ_statement::{Conditional, Sides, Statement, sides, under_conditions};
+use std::alloc::{AllocError, Global};
 
 // An item, by the places of its parts.
-#[derive(Clone, Copy)]
+#[derive(Drop)]
 pub(crate) enum FoundItem {
     Variables { names: Span, sort: usize },
-    Goal { left: Span, right: Span },
+    Goal { sides: Sides, conds: Vec<Sides> },
     Coinduction,
     Reduce { term: Span },
 }
@@ -28,7 +28,7 @@ pub(crate) fn item(alloc: Global, tokens: &Tokens<'_>, words: Span) -> Result<Fo
         (IsItem (tokens_in tokens.now words)) }
 {
     if let Some(rest) = after(tokens, words, b"add") {
-        return shaped(goal(tokens, rest));
+        return shaped(goal(alloc, tokens, rest)?);
     }
     if let Some(rest) = after(tokens, words, b"coinduction") {
         return shaped(coinduction(rest));
@@ -49,19 +49,47 @@ fn shaped(item: Option<FoundItem>) -> Result<FoundItem, Fault>
 }
 
 // The goal that the words after `add` are.
-fn goal(tokens: &Tokens<'_>, words: Span) -> Option<FoundItem>
+fn goal(alloc: Global, tokens: &Tokens<'_>, words: Span) -> Result<Option<FoundItem>, AllocError>
+    requires { IsWithin tokens.now words }
+    ensures { IfOk result (λ o. GivesFound o tokens.now
+        (IsItem (codes "add" ∷ tokens_in tokens.now words))) }
+{
+    if let Some(rest) = after(tokens, words, b"goal") {
+        return Ok(bare_goal(alloc, tokens, rest));
+    }
+    match after(tokens, words, b"cgoal") {
+        Some(rest) => conditional_goal(alloc, tokens, rest),
+        None => Ok(None),
+    }
+}
+
+// A goal without conditions.
+fn bare_goal(alloc: Global, tokens: &Tokens<'_>, words: Span) -> Option<FoundItem>
     requires { IsWithin tokens.now words }
     ensures { GivesFound result tokens.now
-        (IsItem (codes "add" ∷ tokens_in tokens.now words)) }
+        (IsItem (codes "add" ∷ codes "goal" ∷ tokens_in tokens.now words)) }
 {
-    let sides = after(tokens, words, b"goal")?;
-    let sides = split(tokens, sides, b"=")?;
-    match split(tokens, sides.right, b"=") {
-        Some(_) => None,
-        None => Some(FoundItem::Goal {
-            left: sides.left,
-            right: sides.right,
-        }),
+    match sides(tokens, words) {
+        Some(sides) => {
+            let conds = Vec::new(alloc);
+            Some(FoundItem::Goal { sides, conds })
+        }
+        None => None,
+    }
+}
+
+fn conditional_goal(
+    alloc: Global,
+    tokens: &Tokens<'_>,
+    words: Span,
+) -> Result<Option<FoundItem>, AllocError>
+    requires { IsWithin tokens.now words }
+    ensures { IfOk result (λ o. GivesFound o tokens.now
+        (IsItem (codes "add" ∷ codes "cgoal" ∷ tokens_in tokens.now words))) }
+{
+    match under_conditions(alloc, tokens, words)? {
+        Some(Conditional { sides, conds }) => Ok(Some(FoundItem::Goal { sides, conds })),
+        None => Ok(None),
     }
 }
 
@@ -111,13 +139,24 @@ fn declaration(statement: Statement) -> Option<FoundItem>
 }
 
 // Whether a script for the job may have the item.
-pub(crate) fn is_for(job: Job, item: FoundItem) -> bool
-    ensures { (ts : TokenList) → IsTrue result ↔ IsFor job (item_of ts item) }
+pub(crate) fn is_for(job: Job, item: &FoundItem) -> bool
+    ensures { (ts : TokenList) → IsTrue result ↔ IsFor job (item_of ts item.now) }
 {
     match item {
         FoundItem::Variables { .. } => true,
-        FoundItem::Goal { .. } => job == Job::Prove,
-        FoundItem::Coinduction => job == Job::Prove,
+        FoundItem::Goal { conds, .. } => may_have_goal(job, conds),
+        FoundItem::Coinduction => job != Job::Reduce,
         FoundItem::Reduce { .. } => job == Job::Reduce,
+    }
+}
+
+// Whether a script for the job may have a goal with these conditions.
+fn may_have_goal(job: Job, conds: &[Sides]) -> bool
+    ensures { IsTrue result ↔ MayHaveGoal job conds.now }
+{
+    match job {
+        Job::Prove => true,
+        Job::Differ => conds.is_empty(),
+        Job::Reduce => false,
     }
 }

@@ -5,6 +5,8 @@
 pub enum Job {
     /// Its goals are proved, block by block.
     Prove,
+    /// The sides of its goals are told apart. They have no conditions.
+    Differ,
     /// Its terms are reduced.
     Reduce,
 }

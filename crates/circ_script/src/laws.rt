@@ -34,11 +34,11 @@ pub fn read_or_refused()
     circ_lexer::laws::cut_in_one_way();
 }
 
-/// What is read is fit to be proved or reduced: goals and terms are well-sorted, with low numbers
-/// of variables, no block is empty, and there is what the job is done on.
+/// What is read is fit for its job: goals and terms are well-sorted, with low numbers of variables,
+/// conditions are few and of visible sorts, no block is empty, and there is what the job is done on.
 pub fn scripts_are_fit()
     ensures fit { (th : Theory) (job : Job) (bytes : List ℕ) (s : Script) → IsWellFormed th →
-        ReadsAsScript th job bytes s → IsFit th.signature s }
+        ReadsAsScript th job bytes s → IsFit th s }
     ensures is_for { (th : Theory) (job : Job) (bytes : List ℕ) (s : Script) →
         ReadsAsScript th job bytes s → IsScriptFor job s }
 {}

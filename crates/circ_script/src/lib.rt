@@ -1,4 +1,4 @@
-//! Scripts: what is to be proved or reduced in a theory.
+//! Scripts: what is to be proved, told apart or reduced in a theory.
 //!
 //! [`read_script`] gives the script that some bytes read as for a [`Job`], or the first cause why
 //! they read as none. What bytes read as, and what the first cause is, is defined in `specs`, item
@@ -7,6 +7,7 @@
 #![tactic(auto)]
 
 mod adding;
+mod goals;
 mod items;
 mod job;
 pub mod laws;

@@ -146,7 +146,7 @@ fn take_item(
             if closing.found != opening.found {
                 return Err(because(Cause::Shape));
             }
-            if !is_for(job, item) {
+            if !is_for(job, &item) {
                 return Err(because(Cause::Shape));
             }
             add_item(alloc, theory, asked, tokens, item)
@@ -178,6 +178,7 @@ fn asks(asked: &Asked, job: Job) -> bool
 {
     match job {
         Job::Prove => !asked.blocks.is_empty(),
+        Job::Differ => !asked.blocks.is_empty(),
         Job::Reduce => !asked.terms.is_empty(),
     }
 }

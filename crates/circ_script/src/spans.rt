@@ -2,7 +2,7 @@
 ghost use Rattle.std.specs.Prelude.{◌≡◌, ◌≤◌};
 ghost use Rattle.circ_lexer.specs.TokenList.{tokens_in, IsWithin};
 ghost use Rattle.circ_script.specs.Items.{begins_with, set_aside};
-ghost use Rattle.circ_script.specs.Steps.{GivesRest, GivesHalves};
+ghost use Rattle.circ_script.specs.Steps.{GivesRest};
 
 use circ_lexer::{Span, Tokens};
 use circ_read::has_word;
@@ -47,31 +47,4 @@ pub(crate) fn after(tokens: &Tokens<'_>, span: Span, word: &[u8]) -> Option<Span
         from: span.from + 1,
         to: span.to,
     })
-}
-
-// What stands before and after the first such word of a span.
-#[derive(Clone, Copy)]
-pub(crate) struct Halves {
-    pub(crate) left: Span,
-    pub(crate) right: Span,
-}
-
-pub(crate) fn split(tokens: &Tokens<'_>, span: Span, word: &[u8]) -> Option<Halves>
-    requires { IsWithin tokens.now span }
-    ensures { GivesHalves result tokens.now span word.now }
-{
-    for n in span.from..span.to {
-        if has_word(tokens, n, word) {
-            let left = Span {
-                from: span.from,
-                to: n,
-            };
-            let right = Span {
-                from: n + 1,
-                to: span.to,
-            };
-            return Some(Halves { left, right });
-        }
-    }
-    None
 }

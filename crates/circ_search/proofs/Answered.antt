@@ -1,4 +1,4 @@
--- What is answered is what the plain search finds.
+-- What is answered is what the search finds.
 use Rattle.std.proofs.Common.{◌≡◌, List, Option, Some, Result, Ok, Err, subst, ◌∙◌}
 use Rattle.std.specs.Prelude.{IfOk}
 use Rattle.std.proofs.lemmas.Option.{same_Some}
@@ -8,9 +8,12 @@ use Rattle.circ_special.specs.declared.place.Place.{Place}
 use Rattle.circ_rewrite.specs.Replacement.{Traced}
 use Rattle.circ_proof.specs.Proof.{Proof}
 use Rattle.circ_plain_search.specs.Greatest.{GreatestSpecialSet}
-use Rattle.circ_plain_search.specs.Search.{Limits, Standing, Ending, Reaches, start}
-use Rattle.circ_plain_search.specs.Numbering.{Proved, Special, found_of}
-use Rattle.circ_plain_search.specs.PlainSearch.{PlainSearch, IsProofOf}
+use Rattle.circ_plain_search.specs.Search.{Standing, Ending, start}
+use Rattle.circ_plain_search.specs.Numbering.{Proved, Special}
+use Rattle.circ_plain_search.specs.PlainSearch.{IsProofOf}
+use Rattle.circ_conditional_search.specs.ConditionalSearch.{ConditionalSearch}
+use Rattle.circ_conditional_search.specs.Search.{Manner, Finishes}
+use Rattle.circ_conditional_search.specs.Versions.{versioned_found}
 use Rattle.circ_turn.specs.Ending.{IsEnd, RunEnds}
 use Rattle.circ_turn.specs.declared.end.End.{End}
 use Rattle.circ_turn.specs.declared.end.End.TheVariants as end
@@ -32,41 +35,41 @@ run_ending R st (Err e) x h r = is_ended R e x h r
 
 -- what is found at an ending that a run comes to
 pub found_there : {X E : Type 0} (s : Special) (st : Standing) (end : Result X End) (e : Ending) → ending_at st end ≡ Some e → (r : Result Found E)
-    → IfOk r (λ f. plain_found f ≡ found_of s e) → IfOk r (λ f. (x : Ending) × (ending_at st end ≡ Some x) × (plain_found f ≡ found_of s x))
+    → IfOk r (λ f. plain_found f ≡ versioned_found s e) → IfOk r (λ f. (x : Ending) × (ending_at st end ≡ Some x) × (plain_found f ≡ versioned_found s x))
 found_there s st end e h (Ok f) is = (e, h, is)
 found_there s st end e h (Err x) is = tt
 
 pub found_so : {X E : Type 0} (s : Special) (st : Standing) (end : Result X End) (o : Option Ending) → ending_at st end ≡ o → (r : Result Found E)
-    → IfOk r (λ f. (x : Ending) × (o ≡ Some x) × (plain_found f ≡ found_of s x))
-    → IfOk r (λ f. (x : Ending) × (ending_at st end ≡ Some x) × (plain_found f ≡ found_of s x))
+    → IfOk r (λ f. (x : Ending) × (o ≡ Some x) × (plain_found f ≡ versioned_found s x))
+    → IfOk r (λ f. (x : Ending) × (ending_at st end ≡ Some x) × (plain_found f ≡ versioned_found s x))
 found_so s st end o h (Ok f) is = (is.0, h ∙ is.1, is.2)
 found_so s st end o h (Err x) is = tt
 
-module _ (th : Theory) (blocks : List (List Goal)) (l : Limits) (G : List Place) (traces : List (List Traced)) (greatest : GreatestSpecialSet th l.steps G traces) where
-  pub found_plain : {X E : Type 0} (st : Standing) (end : Result X End) → RunEnds (Reaches th G l (start l blocks)) st end → (r : Result Found E)
-      → IfOk r (λ f. (x : Ending) × (ending_at st end ≡ Some x) × (plain_found f ≡ found_of (special_with G traces) x))
-      → IfOk r (λ f. PlainSearch th blocks l (plain_found f))
-  found_plain st end run (Ok f) is = record {
+module _ (th : Theory) (blocks : List (List Goal)) (m : Manner) (G : List Place) (traces : List (List Traced)) (greatest : GreatestSpecialSet th m.limits.steps G traces) where
+  pub found_searched : {X E : Type 0} (st : Standing) (end : Result X End) → RunEnds (Finishes th G m (start m.limits blocks)) st end → (r : Result Found E)
+      → IfOk r (λ f. (x : Ending) × (ending_at st end ≡ Some x) × (plain_found f ≡ versioned_found (special_with G traces) x))
+      → IfOk r (λ f. ConditionalSearch th blocks m (plain_found f))
+  found_searched st end run (Ok f) is = record {
     places = G;
     traces = traces;
     greatest = greatest;
     ending = is.0;
-    run = run_ending (Reaches th G l (start l blocks)) st end is.0 is.1 run;
+    run = run_ending (Finishes th G m (start m.limits blocks)) st end is.0 is.1 run;
     is = is.2;
   }
-  found_plain st end run (Err x) is = tt
+  found_searched st end run (Err x) is = tt
 
 -- what is proved is accepted
-pub proofs_hold : {E : Type 0} (th : Theory) (blocks : List (List Goal)) (l : Limits) (r : Result Found E)
-    → ((p : Proof) → PlainSearch th blocks l (Proved p) → IsProofOf th blocks p) → IfOk r (λ f. PlainSearch th blocks l (plain_found f))
+pub proofs_hold : {E : Type 0} (th : Theory) (blocks : List (List Goal)) (m : Manner) (r : Result Found E)
+    → ((p : Proof) → ConditionalSearch th blocks m (Proved p) → IsProofOf th blocks p) → IfOk r (λ f. ConditionalSearch th blocks m (plain_found f))
     → IfOk r (λ f. IfProved f (IsProofOf th blocks))
-proofs_hold th blocks l (Ok f) law h = go f h
+proofs_hold th blocks m (Ok f) law h = go f h
   where
-    go : (f : Found) → PlainSearch th blocks l (plain_found f) → IfProved f (IsProofOf th blocks)
+    go : (f : Found) → ConditionalSearch th blocks m (plain_found f) → IfProved f (IsProofOf th blocks)
     go (found.Proved proof) p = law _ p
     go (found.LongTable terms) p = tt
     go (found.Stuck b g s t A) p = tt
     go (found.Spent r1 d m) p = tt
     go (found.TooBig n) p = tt
     go (found.TooDeep n) p = tt
-proofs_hold th blocks l (Err x) law h = tt
+proofs_hold th blocks m (Err x) law h = tt

@@ -5,19 +5,23 @@ ghost use Rattle.circ_rewrite.specs.Links.{link_of};
 ghost use Rattle.circ_contexts.specs.Candidates.{plain_lists};
 ghost use Rattle.circ_plain_search.specs.Greatest.{GreatestSpecialSet};
 ghost use Rattle.circ_proof.specs.PlainProof.{plain_proof};
-ghost use Rattle.circ_plain_search.specs.Numbering.{Special, found_of, needed, proof_with};
-ghost use Rattle.circ_plain_search.specs.PlainSearch.{AreSearchable, PlainSearch, IsProofOf};
+ghost use Rattle.circ_plain_search.specs.Numbering.{Special, needed};
+ghost use Rattle.circ_plain_search.specs.PlainSearch.{IsProofOf};
 ghost use Rattle.circ_plain_search.specs.Search.{All_done, Ending, start};
+ghost use Rattle.circ_conditional_search.specs.ConditionalSearch.{ConditionalSearch};
+ghost use Rattle.circ_conditional_search.specs.ConditionalSearch.{CanAllBeSearched};
+ghost use Rattle.circ_conditional_search.specs.Versions.{versioned_found, versioned_proof};
 ghost use Rattle.circ_turn.specs.Standing.{standing, IsStart};
 ghost use Rattle.circ_numbering.specs.Asking.{GivesProof};
 ghost use Rattle.circ_numbering.specs.Plain.{plain_term_blocks, plain_term_certificates};
 ghost use Rattle.circ_search.specs.Plain.{plain_found, plain_limits, special_with, IfProved};
-ghost use Rattle.circ_search.specs.Plain.{ending_of, ending_at};
+ghost use Rattle.circ_search.specs.Plain.{ending_of, ending_at, manner_with};
 
 use crate::found::Found;
+use crate::versions::version_of;
+use circ_conditional_search::laws::proved_is_accepted;
 use circ_contexts::special_contexts;
-use circ_numbering::{NumberFault, numbered};
-use circ_plain_search::laws::proved_is_accepted;
+use circ_numbering::{NumberFault, TermBlock, numbered};
 use circ_proof::{Link, MOST_TERMS, Proof};
 use circ_rewrite::{Trace, links_of};
 use circ_special::Gamma;
@@ -37,9 +41,9 @@ pub fn prove(
     blocks: &[Vec<Goal>],
     limits: &Limits,
 ) -> Result<Found, AllocError>
-    requires searchable { AreSearchable theory.now (map (λ b. b.items) blocks.now) }
-    ensures exact { IfOk result (λ f. PlainSearch theory.now (map (λ b. b.items) blocks.now)
-        (plain_limits limits.now) (plain_found f)) }
+    requires searchable { CanAllBeSearched theory.now (map (λ b. b.items) blocks.now) }
+    ensures exact { IfOk result (λ f. ConditionalSearch theory.now
+        (map (λ b. b.items) blocks.now) (manner_with limits.now) (plain_found f)) }
     ensures accepted { IfOk result (λ f. IfProved f
         (IsProofOf theory.now (map (λ b. b.items) blocks.now))) }
 {
@@ -58,11 +62,11 @@ fn search_with(
     gamma: Gamma,
     traces: Vec<Vec<Trace>>,
 ) -> Result<Found, AllocError>
-    requires searchable { AreSearchable theory.now (map (λ b. b.items) blocks.now) }
+    requires searchable { CanAllBeSearched theory.now (map (λ b. b.items) blocks.now) }
     requires greatest { GreatestSpecialSet theory.now limits.now.steps gamma
         (plain_lists traces.items) }
-    ensures exact { IfOk result (λ f. PlainSearch theory.now (map (λ b. b.items) blocks.now)
-        (plain_limits limits.now) (plain_found f)) }
+    ensures exact { IfOk result (λ f. ConditionalSearch theory.now
+        (map (λ b. b.items) blocks.now) (manner_with limits.now) (plain_found f)) }
 {
     let mut state = State::start(alloc, blocks, limits.steps)?;
     let found = search_from(alloc, theory, limits, gamma, traces, &mut state);
@@ -84,7 +88,7 @@ fn search_from(
         (plain_lists traces.items) }
     ensures { (blocks : List (List TheGoal))
         → standing state.old ≡ start (plain_limits limits.now) blocks
-        → IfOk result (λ f. PlainSearch theory.now blocks (plain_limits limits.now)
+        → IfOk result (λ f. ConditionalSearch theory.now blocks (manner_with limits.now)
         (plain_found f)) }
 {
     let search = Search {
@@ -106,7 +110,8 @@ pub fn found_at(
     end: Result<(), End>,
 ) -> Result<Found, AllocError>
     ensures { IfOk result (λ f. (e : Ending) × (ending_at (standing state.now) end ≡ Some e)
-        × (plain_found f ≡ found_of (special_with gamma (plain_lists traces.items)) e)) }
+        × (plain_found f
+        ≡ versioned_found (special_with gamma (plain_lists traces.items)) e)) }
 {
     match end {
         Ok(()) => found(alloc, gamma, traces, state),
@@ -117,7 +122,7 @@ pub fn found_at(
 // What is found where a search ends before every goal is done.
 fn ended(end: End) -> Result<Found, AllocError>
     ensures { (s : Special) → IfOk result (λ f. (x : Ending) × (ending_of end ≡ Some x)
-        × (plain_found f ≡ found_of s x)) }
+        × (plain_found f ≡ versioned_found s x)) }
 {
     match end {
         End::Stuck {
@@ -156,7 +161,7 @@ fn found(
     state: &State<'_>,
 ) -> Result<Found, AllocError>
     ensures { IfOk result (λ f. plain_found f
-        ≡ found_of (special_with gamma (plain_lists traces.items))
+        ≡ versioned_found (special_with gamma (plain_lists traces.items))
         (All_done (plain_term_blocks state.now.finished.items) state.now.derives state.now.made
         state.now.deep)) }
 {
@@ -177,21 +182,41 @@ fn needed_proof(
     traces: Vec<Vec<Trace>>,
     state: &State<'_>,
 ) -> Result<Proof, NumberFault>
-    ensures { GivesProof plain_proof (proof_with
+    ensures { GivesProof plain_proof (versioned_proof
         (needed state.now.deep (special_with gamma (plain_lists traces.items))).places
         (needed state.now.deep (special_with gamma (plain_lists traces.items))).certificates
         (plain_term_blocks state.now.finished.items)) result }
 {
     if state.deep {
         let certificates = certificates(alloc, traces)?;
-        numbered(
+        versioned(
             alloc,
             gamma,
             certificates.as_slice(),
             state.finished.as_slice(),
         )
     } else {
-        numbered(alloc, Gamma::empty(alloc), &[], state.finished.as_slice())
+        versioned(alloc, Gamma::empty(alloc), &[], state.finished.as_slice())
+    }
+}
+
+// The proof of these blocks, with this special set and its certificates, in its version.
+fn versioned(
+    alloc: Global,
+    gamma: Gamma,
+    certificates: &[Vec<Link<Term>>],
+    blocks: &[TermBlock],
+) -> Result<Proof, NumberFault>
+    ensures { GivesProof plain_proof (versioned_proof gamma
+        (plain_term_certificates certificates.now) (plain_term_blocks blocks.now)) result }
+{
+    match numbered(alloc, gamma, certificates, blocks) {
+        Err(fault) => Err(fault),
+        Ok(proof) => {
+            let mut proof = proof;
+            proof.version = version_of(blocks, certificates);
+            Ok(proof)
+        }
     }
 }
 

@@ -4,9 +4,9 @@ mod Shapes
 mod Replacing
 mod Giving
 mod Seeing
-mod Sharing
+pub mod Sharing
 mod Paired
 mod Using
 mod Steps
 mod Meets
-mod Cases
+pub mod Cases

@@ -74,7 +74,7 @@ module _ (old new : List Tree) (g : Grows old new) where
   goals_later [] a = refl
   goals_later (p ∷ ps) a = ap (λ q. q ∷ map (goal_at new) ps) (goal_later p a.0) ∙ ap (λ qs. goal_at old p ∷ qs) (goals_later ps a.1)
 
-  pattern_later : (p : Pattern) → IsPattern old p → IsPattern new p
+  pub pattern_later : (p : Pattern) → IsPattern old p → IsPattern new p
   pattern_later p h = record {
     there = there_later p.sides h.there;
     conditions = are_there_later p.conds.items h.conditions;
@@ -83,7 +83,7 @@ module _ (old new : List Tree) (g : Grows old new) where
         subst P (sym (goal_later p h)) (are_named_later old new p.variables.items (variable_trees (sorted (variables_of (goal_at old p)))) g h.variables);
   }
 
-  patterns_later : (ps : List Pattern) → AllByRecursion (IsPattern old) ps → AllByRecursion (IsPattern new) ps
+  pub patterns_later : (ps : List Pattern) → AllByRecursion (IsPattern old) ps → AllByRecursion (IsPattern new) ps
   patterns_later [] a = tt
   patterns_later (p ∷ ps) a = (pattern_later p a.0, patterns_later ps a.1)
 

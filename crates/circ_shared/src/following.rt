@@ -137,9 +137,10 @@ impl Sources<'_> {
         Ok(end.left == end.right)
     }
 
-    // The sides that the chain leads to.
+    /// The numbers of the two sides that the chain leads to. None where one of its links does not
+    /// apply.
     #[cycle(follow)]
-    pub(crate) fn follow_chain(
+    pub fn follow_chain(
         &self,
         nodes: &mut Nodes,
         assumptions: &[Sides],

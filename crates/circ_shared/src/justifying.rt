@@ -19,7 +19,7 @@ use crate::usage::Sources;
 use circ_nodes::{Nodes, Numbers};
 use circ_proof::{Chain, Why};
 use circ_term::TermFault;
-use std::alloc::AllocError;
+use std::alloc::{AllocError, Global};
 
 impl Sources<'_> {
     /// Whether the goal of these sides holds by the reason, with its conditions as assumptions:
@@ -165,20 +165,21 @@ impl Sources<'_> {
             assumptions.new.items term constant (sort_of (tree_at nodes.old term))) }
     {
         let sort = nodes.sort(term);
-        let right = self.constant(nodes, constant, sort)?;
+        let right = constant_of(self.alloc, nodes, constant, sort)?;
         assumptions.push(Sides { left: term, right })?;
         Ok(())
     }
+}
 
-    fn constant(&self, nodes: &mut Nodes, op: u32, sort: u32) -> Result<u32, AllocError>
-        ensures grows { Grows nodes.old nodes.new }
-        ensures named { IfOk result (λ n. IsNamed nodes.new n (App op sort none)) }
-    {
-        match nodes.app(op, sort, Numbers::new(self.alloc)) {
-            Ok(number) => Ok(number),
-            Err(TermFault::Memory) => Err(AllocError),
-            Err(TermFault::TooBig { .. }) => unreachable!(),
-            Err(TermFault::TooDeep { .. }) => unreachable!(),
-        }
+/// The number of a constant of this sort.
+pub fn constant_of(alloc: Global, nodes: &mut Nodes, op: u32, sort: u32) -> Result<u32, AllocError>
+    ensures grows { Grows nodes.old nodes.new }
+    ensures named { IfOk result (λ n. IsNamed nodes.new n (App op sort none)) }
+{
+    match nodes.app(op, sort, Numbers::new(alloc)) {
+        Ok(number) => Ok(number),
+        Err(TermFault::Memory) => Err(AllocError),
+        Err(TermFault::TooBig { .. }) => unreachable!(),
+        Err(TermFault::TooDeep { .. }) => unreachable!(),
     }
 }

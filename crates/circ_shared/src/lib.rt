@@ -22,6 +22,7 @@ mod usage;
 mod variables;
 
 pub use instances::{Made, instance};
+pub use justifying::constant_of;
 pub use patterns::{Pattern, Sides};
 pub use placing::replace;
 pub use usage::Sources;

@@ -1,6 +1,5 @@
 -- Splits in steps.
 use Rattle.std.proofs.Common.{◌≡◌, ◌≢◌, ◌≤◌, ◌<◌, ℕ, zero, suc, ◌+◌, ◌-◌, length, Bool, true, false, if◌then◌else◌, List, [], ◌∷◌, ◌++◌, drop, get_or, map, Result, Ok, Err, refl, ap, sym, subst, ◌∙◌, arith}
-use Rattle.std.specs.Option.{option_or}
 use Rattle.std.proofs.lemmas.List.{drop_all, drop_more}
 use Rattle.circ_term.specs.Tree.{Tree}
 use Rattle.circ_term.specs.Order.{is_same}
@@ -10,8 +9,9 @@ use Rattle.circ_theory.specs.Pairs.{plain_pair}
 use Rattle.circ_theory.specs.declared.pairs.Pair.{Pair as PairOfTerms}
 use Rattle.circ_proof.specs.Plain.{Same_why, Split_why, WhysOf, no_why, more_whys}
 use Rattle.circ_rewrite.specs.declared.parts.Rule.{Rule}
-use Rattle.circ_plain_search.specs.Joining.{Stop, and_then, first_open}
-use Rattle.circ_plain_search.specs.Search.{Sides, normal_sides, Reason, reason_with, SplitReason, split_with, Splitter, case_reason, case_of, each_case, open_cases, split_cases}
+use Rattle.circ_plain_search.specs.Joining.{Stop, and_then}
+use Rattle.circ_plain_search.specs.Search.{Sides, Reason, reason_with, SplitReason, split_with, Splitter, case_reason, case_of}
+use Rattle.circ_conditional_search.specs.Search.{normal_sides_trying, each_case_trying, open_cases_trying, first_open_of, split_cases_trying}
 use Rattle.circ_plain_search.proofs.Uses.{map_append}
 use Rattle.circ_proof.specs.Plain.{plain_why, plain_whys}
 use Rattle.circ_proof.specs.declared.links.Why.{Why}
@@ -57,12 +57,12 @@ pub onto_none : (ws : List (Why Tree)) → onto ws no_why ≡ plain_whys ws
 onto_none [] = refl
 onto_none (v ∷ ws) = ap (more_whys (plain_why v)) (onto_none ws)
 
-each_term : (th : Theory) (R : List Rule) (again : Splitter) (A : List Pair) (u s t : Tree) (cs : List ℕ) (k : ℕ) (b : SplitReason) → each_case th R again A u s t cs k ≡ Ok b → b.term ≡ u
+each_term : (th : Theory) (R : List Rule) (again : Splitter) (A : List Pair) (u s t : Tree) (cs : List ℕ) (k : ℕ) (b : SplitReason) → each_case_trying th R again A u s t cs k ≡ Ok b → b.term ≡ u
 each_term th R again A u s t [] k b e = ap (λ x. x.term) (sym (same_Ok (split_with u no_why k) b e))
 each_term th R again A u s t (c ∷ cs) k b e =
-    let x : Through (and_then (normal_sides th R (A ++ case_of u c ∷ []) s t k) (case_reason again (A ++ case_of u c ∷ [])))
-    (λ r. and_then (each_case th R again A u s t cs r.budget) (λ d. Ok (split_with u (more_whys r.why d.whys) d.budget))) b = through _ _ b e in
-    let z : Through (each_case th R again A u s t cs x.value.budget) (λ d. Ok (split_with u (more_whys x.value.why d.whys) d.budget)) b = through _ _ b x.last in
+    let x : Through (and_then (normal_sides_trying th R (A ++ case_of u c ∷ []) s t k) (case_reason again (A ++ case_of u c ∷ [])))
+    (λ r. and_then (each_case_trying th R again A u s t cs r.budget) (λ d. Ok (split_with u (more_whys r.why d.whys) d.budget))) b = through _ _ b e in
+    let z : Through (each_case_trying th R again A u s t cs x.value.budget) (λ d. Ok (split_with u (more_whys x.value.why d.whys) d.budget)) b = through _ _ b x.last in
     ap (λ y. y.term) (sym (same_Ok (split_with u (more_whys x.value.why z.value.whys) z.value.budget) b z.last))
 
 abbrev pub Rest : Result SplitReason Stop → Result SplitReason Stop → List (Why Tree) → Type 0
@@ -74,13 +74,13 @@ rest_start (Err e) = refl
 
 -- one case more
 pub rest_next : (th : Theory) (R : List Rule) (room : ℕ) (A : List Pair) (u s t : Tree) (cs : List ℕ) (i k l : ℕ) (v : Why Tree) (whole : Result SplitReason Stop) (ws : List (Why Tree))
-    → i < length cs → Rest whole (each_case th R (split_cases th R room) A u s t (drop i cs) k) ws
-    → case_answer th R room (A ++ case_of u (get_or cs i 0) ∷ []) s t k ≡ Ok (reason_with (plain_why v) l) → Rest whole (each_case th R (split_cases th R room) A u s t (drop (i + 1) cs) l) (ws ++ v ∷ [])
+    → i < length cs → Rest whole (each_case_trying th R (split_cases_trying th R room) A u s t (drop i cs) k) ws
+    → case_answer th R room (A ++ case_of u (get_or cs i 0) ∷ []) s t k ≡ Ok (reason_with (plain_why v) l) → Rest whole (each_case_trying th R (split_cases_trying th R room) A u s t (drop (i + 1) cs) l) (ws ++ v ∷ [])
 rest_next th R room A u s t cs i k l v whole ws h r one =
     let read = drop_more cs i 0 h in
     let q = rw (read) at r in
     let z = rw one at q in
-    z ∙ go (each_case th R (split_cases th R room) A u s t (drop (i + 1) cs) l) (λ b e. each_term th R (split_cases th R room) A u s t (drop (i + 1) cs) l b e)
+    z ∙ go (each_case_trying th R (split_cases_trying th R room) A u s t (drop (i + 1) cs) l) (λ b e. each_term th R (split_cases_trying th R room) A u s t (drop (i + 1) cs) l b e)
   where
     go : (o : Result SplitReason Stop) → ((b : SplitReason) → o ≡ Ok b → b.term ≡ u)
         → and_then (and_then o (λ d. Ok (split_with u (more_whys (plain_why v) d.whys) d.budget))) (λ b. Ok (split_with b.term (onto ws b.whys) b.budget)) ≡ and_then o (λ b. Ok (split_with b.term (onto (ws ++ v ∷ []) b.whys) b.budget))
@@ -89,7 +89,7 @@ rest_next th R room A u s t cs i k l v whole ws h r one =
 
 -- a case that stops
 pub rest_stops : (th : Theory) (R : List Rule) (room : ℕ) (A : List Pair) (u s t : Tree) (cs : List ℕ) (i k : ℕ) (whole : Result SplitReason Stop) (ws : List (Why Tree)) (e : TheStop)
-    → i < length cs → Rest whole (each_case th R (split_cases th R room) A u s t (drop i cs) k) ws
+    → i < length cs → Rest whole (each_case_trying th R (split_cases_trying th R room) A u s t (drop i cs) k) ws
     → Stops (case_answer th R room (A ++ case_of u (get_or cs i 0) ∷ []) s t k) e → Stops whole e
 rest_stops th R room A u s t cs i k whole ws e h r one =
     let read = drop_more cs i 0 h in
@@ -97,21 +97,21 @@ rest_stops th R room A u s t cs i k whole ws e h r one =
     stops_same e whole _ q
     (stops_then e _ (λ b. Ok (split_with b.term (onto ws b.whys) b.budget))
     (stops_then e (case_answer th R room (A ++ case_of u (get_or cs i 0) ∷ []) s t k)
-    (λ x. and_then (each_case th R (split_cases th R room) A u s t (drop (i + 1) cs) x.budget) (λ d. Ok (split_with u (more_whys x.why d.whys) d.budget))) one))
+    (λ x. and_then (each_case_trying th R (split_cases_trying th R room) A u s t (drop (i + 1) cs) x.budget) (λ d. Ok (split_with u (more_whys x.why d.whys) d.budget))) one))
 
 pub rest_end : (th : Theory) (R : List Rule) (room : ℕ) (A : List Pair) (u s t : Tree) (cs : List ℕ) (i k : ℕ) (whole : Result SplitReason Stop) (ws : List (Why Tree)) → length cs ≤ i
-    → Rest whole (each_case th R (split_cases th R room) A u s t (drop i cs) k) ws → whole ≡ Ok (split_with u (plain_whys ws) k)
+    → Rest whole (each_case_trying th R (split_cases_trying th R room) A u s t (drop i cs) k) ws → whole ≡ Ok (split_with u (plain_whys ws) k)
 rest_end th R room A u s t cs i k whole ws h r =
     let z = rw (drop_all i cs h) at r in
     z ∙ ap (λ x. Ok (split_with u x k)) (onto_none ws)
 
 -- with room for a split
 pub split_open : (th : Theory) (R : List Rule) (n : ℕ) (A : List Pair) (s t : Tree) (k : ℕ) → n ≢ 0
-    → split_cases th R n A s t k ≡ open_cases th R (split_cases th R (n - 1)) (option_or (first_open th s) (first_open th t)) A s t k
+    → split_cases_trying th R n A s t k ≡ open_cases_trying th R (split_cases_trying th R (n - 1)) (first_open_of th s t) A s t k
 split_open th R zero A s t k h = absurd (h refl)
 split_open th R (suc m) A s t k h =
     let e : m ≡ suc m - 1 = omega arith in
-    ap (λ j. open_cases th R (split_cases th R j) (option_or (first_open th s) (first_open th t)) A s t k) e
+    ap (λ j. open_cases_trying th R (split_cases_trying th R j) (first_open_of th s t) A s t k) e
 
 -- what a case gives, once its sides are there
 pub case_given : (r : Result Sides Stop) (f : Sides → Result Reason Stop) (n : Sides) (k : ℕ) (w : Result (Why Tree) TheStop) → r ≡ Ok n

@@ -5,7 +5,8 @@ use Rattle.circ_theory.specs.Theory.{Theory, Pair}
 use Rattle.circ_proof.specs.Plain.{WhysOf, more_whys}
 use Rattle.circ_rewrite.specs.declared.parts.Rule.{Rule}
 use Rattle.circ_plain_search.specs.Joining.{Stop, and_then}
-use Rattle.circ_plain_search.specs.Search.{NormalSide, normal_side, Sides, sides_with, Reason, reason_with, SplitReason, split_with, normal_sides, case_reason, split_cases}
+use Rattle.circ_plain_search.specs.Search.{NormalSide, normal_side, Sides, sides_with, Reason, reason_with, SplitReason, split_with, case_reason}
+use Rattle.circ_conditional_search.specs.Search.{normal_sides_trying, split_cases_trying}
 use Rattle.circ_proof.specs.Plain.{plain_links, plain_chain, plain_why, plain_whys}
 use Rattle.circ_proof.specs.declared.links.Why.{Why}
 use Rattle.circ_join.specs.Stopping.{Stops}
@@ -32,7 +33,7 @@ GivesCases r left (Err e) = Stops r e
 
 -- what a case gives under its assumptions, with room for so many splits
 abbrev pub case_answer : Theory → List Rule → (room : ℕ) → (assumptions : List Pair) → (s t : Tree) → (budget : ℕ) → Result Reason Stop
-case_answer th R room A s t k = and_then (normal_sides th R A s t k) (case_reason (split_cases th R room) A)
+case_answer th R room A s t k = and_then (normal_sides_trying th R A s t k) (case_reason (split_cases_trying th R room) A)
 
 -- reasons made before, and those to come
 abbrev pub onto : List (Why Tree) → WhysOf Tree → WhysOf Tree

@@ -1,9 +1,9 @@
 //! What a goal is split on.
 ghost use Rattle.std.specs.Prelude.{◌≡◌, if◌then◌else◌, Some, None};
-ghost use Rattle.std.specs.Option.{option_copied, option_or};
+ghost use Rattle.std.specs.Option.{option_copied};
 ghost use Rattle.circ_term.specs.Tree.{trees_of};
 ghost use Rattle.circ_plain_search.specs.Joining.{is_open, first_open, first_open_in};
-ghost use Rattle.circ_plain_search.specs.Search.{constants_of};
+ghost use Rattle.circ_conditional_search.specs.Search.{first_open_of};
 
 use circ_term::{Kind, Term};
 use circ_theory::Theory;
@@ -60,22 +60,11 @@ fn is_open(theory: &Theory, term: &Term) -> bool
 }
 
 /// The first open subterm of the left side, or, where it has none, of the right side.
-pub(crate) fn open_of<'a>(theory: &Theory, left: &'a Term, right: &'a Term) -> Option<&'a Term>
-    ensures { option_copied result
-        ≡ option_or (first_open theory.now left.now) (first_open theory.now right.now) }
+pub fn first_open_of<'a>(theory: &Theory, left: &'a Term, right: &'a Term) -> Option<&'a Term>
+    ensures { option_copied result ≡ first_open_of theory.now left.now right.now }
 {
     match first_open(theory, left) {
         Some(open) => Some(open),
         None => first_open(theory, right),
-    }
-}
-
-/// The constants of a sort's case list. None where it has no case list.
-pub(crate) fn constants_of(theory: &Theory, sort: u32) -> &[u32]
-    ensures { result.now ≡ constants_of theory.now sort }
-{
-    match theory.cases(sort) {
-        Some(constants) => constants,
-        None => &[],
     }
 }

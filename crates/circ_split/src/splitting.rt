@@ -1,24 +1,27 @@
 //! The splits of a goal into cases.
 ghost use Rattle.std.specs.Prelude.{◌≡◌, ◌≤◌, ◌<◌, ◌+◌, ◌^◌, ℕ, []};
-ghost use Rattle.std.specs.Prelude.{◌∷◌, ◌++◌, length, map, Err, IfOk, OnOk};
+ghost use Rattle.std.specs.Prelude.{◌∷◌, ◌++◌, length, map, Err, OnOk};
 ghost use Rattle.circ_term.specs.Tree.{sort_of};
+ghost use Rattle.circ_theory.specs.Limits.{condition_limit};
 ghost use Rattle.circ_theory.specs.Pairs.{plain_pair};
 ghost use Rattle.circ_proof.specs.Plain.{plain_chain};
 ghost use Rattle.circ_proof.specs.Proof.{split_limit};
 ghost use Rattle.circ_plain_search.specs.Joining.{Not_split};
-ghost use Rattle.circ_plain_search.specs.Search.{normal_sides, split_cases, each_case};
 ghost use Rattle.circ_plain_search.specs.Search.{case_of, case_reason, constants_of, sides_with};
+ghost use Rattle.circ_conditional_search.specs.Search.{normal_sides_trying, split_cases_trying};
+ghost use Rattle.circ_conditional_search.specs.Search.{each_case_trying};
 ghost use Rattle.circ_split.specs.Answers.{GivesSides, GivesReason, GivesCases};
 ghost use Rattle.circ_split.specs.Answers.{case_answer};
 
-use crate::opening::{constants_of, open_of};
+use crate::casing::{case_of, constants_of};
+use crate::opening::first_open_of;
 use crate::sides::{Sides, normal_sides};
 use circ_join::Stop;
-use circ_memo::Memo;
 use circ_proof::Why;
 use circ_term::Term;
-use circ_theory::{Pair, Theory, constant_of, share_pairs};
-use std::alloc::{AllocError, Global};
+use circ_theory::{Pair, Theory, share_pairs};
+use circ_tries::Reducer;
+use std::alloc::Global;
 
 /// What goals are split by.
 #[derive(Clone, Copy)]
@@ -49,25 +52,29 @@ struct Split<'a> {
 impl Splitting<'_> {
     /// The cases of the first open subterm of the left side, or else of the right side. A case
     /// whose sides are not equal is split again, with eight splits inside one another at most.
-    /// Each case puts its own assumptions in place of the memo's, whatever these were. No clause
-    /// says which they are afterwards: those of the last case that was tried, none where memory ran
-    /// out as they were put in place, or as before where there was no case.
+    /// Each case puts the conditions of the goal and its own assumptions in place of the reducer's,
+    /// whatever these were. No clause says which they are afterwards: those of the last case that
+    /// was tried, none where memory ran out as they were put in place, or as before where there was
+    /// no case.
     pub fn split_cases(
         &self,
-        memo: &mut Memo<'_>,
+        reducer: &mut Reducer<'_>,
+        conds: &[Pair],
         left: &Term,
         right: &Term,
         budget: &mut u64,
     ) -> Result<Cases, Stop>
-        requires theory { memo.old.theory ≡ self.now.theory.now }
-        ensures exact { GivesCases (split_cases self.now.theory.now memo.old.rules split_limit []
-            left.now right.now budget.old) budget.new result }
+        requires theory { reducer.old.theory ≡ self.now.theory.now }
+        requires few { length conds.now ≤ condition_limit }
+        ensures exact { GivesCases (split_cases_trying self.now.theory.now reducer.old.rules
+            split_limit (map plain_pair conds.now) left.now right.now budget.old)
+            budget.new result }
         ensures less { budget.new ≤ budget.old }
-        ensures theory { memo.new.theory ≡ memo.old.theory }
-        ensures rules { memo.new.rules ≡ memo.old.rules }
+        ensures theory { reducer.new.theory ≡ reducer.old.theory }
+        ensures rules { reducer.new.rules ≡ reducer.old.rules }
     {
-        let mut assumptions = Vec::new(self.alloc);
-        self.split_with(8, memo, &mut assumptions, left, right, budget)
+        let mut assumptions = share_pairs(self.alloc, conds)?;
+        self.split_with(8, reducer, &mut assumptions, left, right, budget)
     }
 
     // The same under assumptions, with room for so many splits.
@@ -75,30 +82,30 @@ impl Splitting<'_> {
     fn split_with(
         &self,
         room: u32,
-        memo: &mut Memo<'_>,
+        reducer: &mut Reducer<'_>,
         assumptions: &mut Vec<Pair>,
         left: &Term,
         right: &Term,
         budget: &mut u64,
     ) -> Result<Cases, Stop>
-        requires theory { memo.old.theory ≡ self.now.theory.now }
-        requires few { length assumptions.old.items + room ≤ split_limit }
-        ensures exact { GivesCases (split_cases self.now.theory.now memo.old.rules room
+        requires theory { reducer.old.theory ≡ self.now.theory.now }
+        requires few { length assumptions.old.items + room ≤ condition_limit + split_limit }
+        ensures exact { GivesCases (split_cases_trying self.now.theory.now reducer.old.rules room
             (map plain_pair assumptions.old.items) left.now right.now budget.old)
             budget.new result }
         ensures less { budget.new ≤ budget.old }
-        ensures theory { memo.new.theory ≡ memo.old.theory }
-        ensures rules { memo.new.rules ≡ memo.old.rules }
+        ensures theory { reducer.new.theory ≡ reducer.old.theory }
+        ensures rules { reducer.new.rules ≡ reducer.old.rules }
         ensures same { OnOk result (assumptions.new.items ≡ assumptions.old.items) }
     {
         if room == 0 {
             return stuck(self.alloc, left, right, assumptions.as_slice());
         }
-        match open_of(self.theory, left, right) {
+        match first_open_of(self.theory, left, right) {
             None => stuck(self.alloc, left, right, assumptions.as_slice()),
             Some(term) => {
                 let split = Split { term, left, right };
-                self.each_case(room - 1, memo, assumptions, &split, budget)
+                self.each_case(room - 1, reducer, assumptions, &split, budget)
             }
         }
     }
@@ -108,29 +115,29 @@ impl Splitting<'_> {
     fn each_case(
         &self,
         room: u32,
-        memo: &mut Memo<'_>,
+        reducer: &mut Reducer<'_>,
         assumptions: &mut Vec<Pair>,
         split: &Split<'_>,
         budget: &mut u64,
     ) -> Result<Cases, Stop>
-        requires theory { memo.old.theory ≡ self.now.theory.now }
-        requires few { length assumptions.old.items + room + 1 ≤ split_limit }
-        ensures exact { GivesCases (each_case self.now.theory.now memo.old.rules
-            (split_cases self.now.theory.now memo.old.rules room)
+        requires theory { reducer.old.theory ≡ self.now.theory.now }
+        requires few { length assumptions.old.items + room < condition_limit + split_limit }
+        ensures exact { GivesCases (each_case_trying self.now.theory.now reducer.old.rules
+            (split_cases_trying self.now.theory.now reducer.old.rules room)
             (map plain_pair assumptions.old.items)
             split.now.term.now split.now.left.now split.now.right.now
             (constants_of self.now.theory.now (sort_of split.now.term.now)) budget.old)
             budget.new result }
         ensures less { budget.new ≤ budget.old }
-        ensures theory { memo.new.theory ≡ memo.old.theory }
-        ensures rules { memo.new.rules ≡ memo.old.rules }
+        ensures theory { reducer.new.theory ≡ reducer.old.theory }
+        ensures rules { reducer.new.rules ≡ reducer.old.rules }
         ensures same { OnOk result (assumptions.new.items ≡ assumptions.old.items) }
     {
         let term = split.term.share()?;
         let mut whys = Vec::new(self.alloc);
         let constants = constants_of(self.theory, split.term.sort());
         for i in 0..constants.len() {
-            match self.one_case(room, memo, assumptions, split, constants[i], budget) {
+            match self.one_case(room, reducer, assumptions, split, constants[i], budget) {
                 Err(stop) => return Err(stop),
                 Ok(why) => whys.push(why)?,
             }
@@ -143,25 +150,25 @@ impl Splitting<'_> {
     fn one_case(
         &self,
         room: u32,
-        memo: &mut Memo<'_>,
+        reducer: &mut Reducer<'_>,
         assumptions: &mut Vec<Pair>,
         split: &Split<'_>,
         constant: u32,
         budget: &mut u64,
     ) -> Result<Why<Term>, Stop>
-        requires theory { memo.old.theory ≡ self.now.theory.now }
-        requires few { length assumptions.old.items + room + 1 ≤ split_limit }
-        ensures exact { GivesReason (case_answer self.now.theory.now memo.old.rules room
+        requires theory { reducer.old.theory ≡ self.now.theory.now }
+        requires few { length assumptions.old.items + room < condition_limit + split_limit }
+        ensures exact { GivesReason (case_answer self.now.theory.now reducer.old.rules room
             (map plain_pair assumptions.old.items ++ case_of split.now.term.now constant ∷ [])
             split.now.left.now split.now.right.now budget.old) budget.new result }
         ensures less { budget.new ≤ budget.old }
-        ensures theory { memo.new.theory ≡ memo.old.theory }
-        ensures rules { memo.new.rules ≡ memo.old.rules }
+        ensures theory { reducer.new.theory ≡ reducer.old.theory }
+        ensures rules { reducer.new.rules ≡ reducer.old.rules }
         ensures same { OnOk result (assumptions.new.items ≡ assumptions.old.items) }
     {
         let case = case_of(self.alloc, split.term, constant)?;
         assumptions.push(case)?;
-        match self.case_reason(room, memo, assumptions, split.left, split.right, budget) {
+        match self.case_reason(room, reducer, assumptions, split.left, split.right, budget) {
             Err(stop) => Err(stop),
             Ok(why) => {
                 let _case = assumptions.pop();
@@ -175,25 +182,25 @@ impl Splitting<'_> {
     fn case_reason(
         &self,
         room: u32,
-        memo: &mut Memo<'_>,
+        reducer: &mut Reducer<'_>,
         assumptions: &mut Vec<Pair>,
         left: &Term,
         right: &Term,
         budget: &mut u64,
     ) -> Result<Why<Term>, Stop>
-        requires theory { memo.old.theory ≡ self.now.theory.now }
-        requires few { length assumptions.old.items + room ≤ split_limit }
-        ensures exact { GivesReason (case_answer self.now.theory.now memo.old.rules room
+        requires theory { reducer.old.theory ≡ self.now.theory.now }
+        requires few { length assumptions.old.items + room ≤ condition_limit + split_limit }
+        ensures exact { GivesReason (case_answer self.now.theory.now reducer.old.rules room
             (map plain_pair assumptions.old.items) left.now right.now budget.old)
             budget.new result }
         ensures less { budget.new ≤ budget.old }
-        ensures theory { memo.new.theory ≡ memo.old.theory }
-        ensures rules { memo.new.rules ≡ memo.old.rules }
+        ensures theory { reducer.new.theory ≡ reducer.old.theory }
+        ensures rules { reducer.new.rules ≡ reducer.old.rules }
         ensures same { OnOk result (assumptions.new.items ≡ assumptions.old.items) }
     {
-        match self.case_sides(memo, assumptions.as_slice(), left, right, budget) {
+        match self.case_sides(reducer, assumptions.as_slice(), left, right, budget) {
             Err(stop) => Err(stop),
-            Ok(sides) => self.sides_reason(room, memo, assumptions, sides, budget),
+            Ok(sides) => self.sides_reason(room, reducer, assumptions, sides, budget),
         }
     }
 
@@ -202,27 +209,34 @@ impl Splitting<'_> {
     fn sides_reason(
         &self,
         room: u32,
-        memo: &mut Memo<'_>,
+        reducer: &mut Reducer<'_>,
         assumptions: &mut Vec<Pair>,
         sides: Sides,
         budget: &mut u64,
     ) -> Result<Why<Term>, Stop>
-        requires theory { memo.old.theory ≡ self.now.theory.now }
-        requires few { length assumptions.old.items + room ≤ split_limit }
+        requires theory { reducer.old.theory ≡ self.now.theory.now }
+        requires few { length assumptions.old.items + room ≤ condition_limit + split_limit }
         ensures exact { GivesReason (case_reason
-            (split_cases self.now.theory.now memo.old.rules room)
+            (split_cases_trying self.now.theory.now reducer.old.rules room)
             (map plain_pair assumptions.old.items)
             (sides_with sides.left sides.right (plain_chain sides.chain) budget.old))
             budget.new result }
         ensures less { budget.new ≤ budget.old }
-        ensures theory { memo.new.theory ≡ memo.old.theory }
-        ensures rules { memo.new.rules ≡ memo.old.rules }
+        ensures theory { reducer.new.theory ≡ reducer.old.theory }
+        ensures rules { reducer.new.rules ≡ reducer.old.rules }
         ensures same { OnOk result (assumptions.new.items ≡ assumptions.old.items) }
     {
         if sides.left.same(&sides.right) {
             return Ok(Why::Same { chain: sides.chain });
         }
-        match self.split_with(room, memo, assumptions, &sides.left, &sides.right, budget) {
+        match self.split_with(
+            room,
+            reducer,
+            assumptions,
+            &sides.left,
+            &sides.right,
+            budget,
+        ) {
             Err(stop) => Err(stop),
             Ok(cases) => Ok(Why::Split {
                 chain: sides.chain,
@@ -235,22 +249,22 @@ impl Splitting<'_> {
     // Both sides in normal form under these assumptions.
     fn case_sides(
         &self,
-        memo: &mut Memo<'_>,
+        reducer: &mut Reducer<'_>,
         assumptions: &[Pair],
         left: &Term,
         right: &Term,
         budget: &mut u64,
     ) -> Result<Sides, Stop>
-        requires theory { memo.old.theory ≡ self.now.theory.now }
+        requires theory { reducer.old.theory ≡ self.now.theory.now }
         requires few { length assumptions.now < 2 ^ 32 }
-        ensures exact { GivesSides (normal_sides self.now.theory.now memo.old.rules
+        ensures exact { GivesSides (normal_sides_trying self.now.theory.now reducer.old.rules
             (map plain_pair assumptions.now) left.now right.now budget.old) budget.new result }
         ensures less { budget.new ≤ budget.old }
-        ensures theory { memo.new.theory ≡ memo.old.theory }
-        ensures rules { memo.new.rules ≡ memo.old.rules }
+        ensures theory { reducer.new.theory ≡ reducer.old.theory }
+        ensures rules { reducer.new.rules ≡ reducer.old.rules }
     {
-        memo.assume(assumptions)?;
-        normal_sides(self.alloc, memo, left, right, budget)
+        reducer.assume(assumptions)?;
+        normal_sides(self.alloc, reducer, left, right, budget)
     }
 }
 
@@ -267,13 +281,4 @@ fn stuck(alloc: Global, left: &Term, right: &Term, assumptions: &[Pair]) -> Resu
         right,
         assumptions,
     })
-}
-
-// The term is the constant.
-fn case_of(alloc: Global, term: &Term, constant: u32) -> Result<Pair, AllocError>
-    ensures { IfOk result (λ p. plain_pair p ≡ case_of term.now constant) }
-{
-    let left = term.share()?;
-    let right = constant_of(alloc, constant, term.sort())?;
-    Ok(Pair { left, right })
 }

@@ -10,7 +10,7 @@ use Rattle.circ_statement.specs.declared.statements.Sides.{Sides}
 use Rattle.circ_statement.specs.Words.{Word, is_word}
 use Rattle.circ_statement.specs.Outside.{closed, opened, longer, cut_from, parts_at}
 use Rattle.circ_statement.specs.Said.{Said, SaidSides, sides_of, equation}
-use Rattle.circ_statement.specs.Statement.{AreSides, AreEachSides, IsUnmarked, IsConditional}
+use Rattle.circ_statement.specs.Statement.{AreSides, AreEachSides, AreUnderConditions, IsConditional}
 use Rattle.circ_statement.specs.Reading.{AreConditions, PushesCondition}
 use Rattle.circ_statement.proofs.Equations.{unmarked_same, sides_same}
 
@@ -79,15 +79,27 @@ conditions_same ws a b h k =
     let parts : h.parts ≡ k.parts = some_same h.parts k.parts (sym h.cut ∙ k.cut) in
     each_same k.parts a b (subst (λ ps. AreEachSides ps a) parts h.each) k.each
 
+-- sides under conditions, by where their `if` stands
+pub if_at : (ws front rest : List Word) → parts_at (codes "if") ws ≡ Some (front ∷ (rest ∷ [])) → (s : SaidSides) (conds : List SaidSides)
+    → AreUnderConditions ws s conds → AreSides front s × AreConditions rest conds
+if_at ws front rest one s conds h =
+    let both : h.front ∷ (h.rest ∷ []) ≡ front ∷ (rest ∷ []) = some_same _ _ (sym h.one_if ∙ one) in
+    let first : h.front ≡ front = cc in
+    let second : h.rest ≡ rest = cc in (
+      subst (λ q. AreSides q s) first h.are_sides,
+      record { parts = h.parts; cut = ap (parts_at (codes "/\\")) (sym second) ∙ h.cut; each = h.each },
+    )
+
+under_same : (ws : List Word) (s t : SaidSides) (cs ds : List SaidSides) → AreUnderConditions ws s cs → AreUnderConditions ws t ds → (s ≡ t) × (cs ≡ ds)
+under_same ws s t cs ds h k =
+    let at = if_at ws k.front k.rest k.one_if s cs h in
+    (sides_same k.front s t at.0 k.are_sides, conditions_same k.rest cs ds at.1 (record { parts = k.parts; cut = k.cut; each = k.each }))
+
 pub conditional_same : (ws : List Word) (a b : Said) → IsConditional ws a → IsConditional ws b → a ≡ b
 conditional_same ws a b h k =
     let same = unmarked_same ws h.body k.body h.exec k.exec h.unmarked k.unmarked in
-    let both : h.front ∷ (h.rest ∷ []) ≡ k.front ∷ (k.rest ∷ []) = some_same _ _ (sym h.one_if ∙ ap (parts_at (codes "if")) same.0 ∙ k.one_if) in
-    let front : h.front ≡ k.front = cc in
-    let rest : h.rest ≡ k.rest = cc in
-    let sides = sides_same k.front h.sides k.sides (subst (λ r. AreSides r h.sides) front h.are_sides) k.are_sides in
-    let conds = conditions_same k.rest h.conds k.conds (record { parts = h.parts; cut = ap (parts_at (codes "/\\")) (sym rest) ∙ h.cut; each = h.each }) (record { parts = k.parts; cut = k.cut; each = k.each }) in
-    h.says ∙ (λ i. equation (sides i).left (sides i).right (conds i) (same.1 i)) ∙ sym k.says
+    let both = under_same k.body h.sides k.sides h.conds k.conds (subst (λ q. AreUnderConditions q h.sides h.conds) same.0 h.are) k.are in
+    h.says ∙ (λ i. equation (both.0 i).left (both.0 i).right (both.1 i) (same.1 i)) ∙ sym k.says
 
 -- words are cut into one part at least
 some_parts : (at : Word) (n : ℕ) (ws : List Word) → cut_from at n ws ≡ Some [] → ⊥
@@ -197,24 +209,3 @@ module _ (ts : TokenList) (span rest : Span) (conds : List Sides) (r : AreRead t
   -- a parenthesis that was not open
   pub no_parts : parts_at (codes "/\\") (tokens_in ts rest) ≡ None → (cs : List SaidSides) → AreConditions (tokens_in ts span) cs → ⊥
   no_parts e cs h = let z : None ≡ Some h.parts = sym (r.same ∙ ap (option_map (λ ps. r.done ++ ps)) e) ∙ h.cut in absurd (cc)
-
--- what a conditional equation says, by where its `if` stands
-pub record IfAt (front rest : List Word) (said : Said) : Type 0 where
-  pub sides : SaidSides
-  pub conds : List SaidSides
-  pub are_sides : AreSides front sides
-  pub are : AreConditions rest conds
-
-pub if_at : (ws body front rest : List Word) (exec : Bool) → IsUnmarked ws body exec → parts_at (codes "if") body ≡ Some (front ∷ (rest ∷ []))
-    → (said : Said) → IsConditional ws said → IfAt front rest said
-if_at ws body front rest exec unmarked one said h =
-    let same = (unmarked_same ws h.body body h.exec exec h.unmarked unmarked).0 in
-    let both : h.front ∷ (h.rest ∷ []) ≡ front ∷ (rest ∷ []) = some_same _ _ (sym h.one_if ∙ ap (parts_at (codes "if")) same ∙ one) in
-    let first : h.front ≡ front = cc in
-    let second : h.rest ≡ rest = cc in
-    record {
-      sides = h.sides;
-      conds = h.conds;
-      are_sides = subst (λ q. AreSides q h.sides) first h.are_sides;
-      are = record { parts = h.parts; cut = ap (parts_at (codes "/\\")) (sym second) ∙ h.cut; each = h.each };
-    }

@@ -15,6 +15,7 @@ use Rattle.circ_statement.specs.declared.places.First.{First}
 use Rattle.circ_statement.specs.declared.outside.Cut.{Cut}
 use Rattle.circ_statement.specs.declared.outside.Cut.TheVariants.{At, Nowhere, Unopened}
 use Rattle.circ_statement.specs.declared.statements.Sides.{Sides}
+use Rattle.circ_statement.specs.declared.statements.Conditional.{Conditional}
 use Rattle.circ_statement.specs.declared.heads.Head.{Head}
 use Rattle.circ_statement.specs.declared.statements.Spelling.{Spelling}
 use Rattle.circ_statement.specs.declared.statements.Statement.{Statement}
@@ -25,7 +26,7 @@ use Rattle.circ_statement.specs.Heads.{IsHead, IsBracket, IsFirstForeign, HasFor
 use Rattle.circ_statement.specs.Attributes.{Spelled, AddsAttributes, HasAttributes, IsSpelled, AreSpelled}
 use Rattle.circ_statement.specs.Outside.{parts_at}
 use Rattle.circ_statement.specs.Said.{Said, SaidSides, sides_of, said_of, spelled_of, LiesWithin, LiesIn, IsPlace, token_at}
-use Rattle.circ_statement.specs.Statement.{IsUnmarked, IsOperators, AreSides, AreEachSides, SaysOrLeavesOut}
+use Rattle.circ_statement.specs.Statement.{IsUnmarked, IsOperators, AreSides, AreEachSides, AreUnderConditions, SaysOrLeavesOut}
 
 -- one span lies in another
 pub record IsPart (span part : Span) : Type 0 where
@@ -197,6 +198,13 @@ abbrev pub GivesConditions : Option (Vec Sides) → TokenList → Span → Type 
 GivesConditions None ts span = (conds : List SaidSides) → AreConditions (tokens_in ts span) conds → ⊥
 GivesConditions (Some v) ts span =
     AreConditions (tokens_in ts span) (map (sides_of ts) v.items) × AllByRecursion (λ s. IsWithin ts s.left × IsWithin ts s.right) v.items
+
+-- sides under conditions
+abbrev pub GivesConditional : Option Conditional → TokenList → Span → Type 0
+GivesConditional None ts span = (s : SaidSides) (conds : List SaidSides) → AreUnderConditions (tokens_in ts span) s conds → ⊥
+GivesConditional (Some c) ts span =
+    AreUnderConditions (tokens_in ts span) (sides_of ts c.sides) (map (sides_of ts) c.conds.items) × IsWithin ts c.sides.left × IsWithin ts c.sides.right
+    × AllByRecursion (λ s. IsWithin ts s.left × IsWithin ts s.right) c.conds.items
 
 -- the only such word outside parentheses
 abbrev pub GivesOneCut : Option (Span × Span) → TokenList → Span → Word → Type 0

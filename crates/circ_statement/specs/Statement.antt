@@ -92,20 +92,23 @@ pub record IsEquation (ws : List Word) (said : Said) : Type 0 where
   pub are_sides : AreSides body sides
   pub says : said ≡ equation sides.left sides.right [] exec
 
--- one `if` outside parentheses, and conditions behind it that are cut at each /\ outside parentheses
-pub record IsConditional (ws : List Word) (said : Said) : Type 0 where
-  pub body : List Word
+-- one `if` outside parentheses, with sides before it, and conditions behind it that are cut at each /\ outside parentheses
+pub record AreUnderConditions (ws : List Word) (sides : SaidSides) (conds : List SaidSides) : Type 0 where
   pub front : List Word
   pub rest : List Word
   pub parts : List (List Word)
+  pub one_if : parts_at (codes "if") ws ≡ Some (front ∷ (rest ∷ []))
+  pub cut : parts_at (codes "/\\") rest ≡ Some parts
+  pub are_sides : AreSides front sides
+  pub each : AreEachSides parts conds
+
+pub record IsConditional (ws : List Word) (said : Said) : Type 0 where
+  pub body : List Word
   pub sides : SaidSides
   pub conds : List SaidSides
   pub exec : Bool
   pub unmarked : IsUnmarked ws body exec
-  pub one_if : parts_at (codes "if") body ≡ Some (front ∷ (rest ∷ []))
-  pub cut : parts_at (codes "/\\") rest ≡ Some parts
-  pub are_sides : AreSides front sides
-  pub each : AreEachSides parts conds
+  pub are : AreUnderConditions body sides conds
   pub says : said ≡ equation sides.left sides.right conds exec
 
 pub record IsCases (ws : List Word) (said : Said) : Type 0 where

@@ -3,7 +3,8 @@
 //! [`statement`] reads the tokens of one statement, without any theory: what it declares or says,
 //! where its names and terms stand, and what its attributes make of each form. What a statement
 //! says, and by which word one is left out, is defined in `specs` as relations between lists of
-//! words and what they say.
+//! words and what they say. The goals of scripts are cut by two of its steps, [`sides`] and
+//! [`under_conditions`].
 #![tactic(auto)]
 
 mod attributes;
@@ -19,8 +20,8 @@ mod statements;
 
 pub use fault::StatementFault;
 pub use keywords::is_name;
-pub use reading::statement;
-pub use statements::{Sides, Spelling, Statement};
+pub use reading::{sides, statement, under_conditions};
+pub use statements::{Conditional, Sides, Spelling, Statement};
 
 /// The greatest precedence that can be given.
 pub const MOST_PRECEDENCE: u8 = 127;

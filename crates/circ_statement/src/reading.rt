@@ -5,7 +5,8 @@ ghost use Rattle.circ_statement.specs.Statement.{IsInclusion, IsSorts, IsVariabl
 ghost use Rattle.circ_statement.specs.Statement.{IsConditional, nonexec, GivesStatement};
 ghost use Rattle.circ_statement.specs.Said.{IsPlace};
 ghost use Rattle.circ_statement.specs.Reading.{GivesSaid, GivesOperators, GivesUnmarked, IsNamed, shaped};
-ghost use Rattle.circ_statement.specs.Reading.{GivesSides, GivesOneCut, GivesConditions, PushesCondition};
+ghost use Rattle.circ_statement.specs.Reading.{GivesSides, GivesOneCut, GivesConditions};
+ghost use Rattle.circ_statement.specs.Reading.{GivesConditional, PushesCondition};
 
 use crate::attributes::attributes_of;
 use crate::heads::{Head, foreign_mark, head_of};
@@ -13,7 +14,7 @@ use crate::keywords::{Keyword, is_name, keyword_of};
 use crate::outside::{Cut, cut_outside};
 use crate::places::{after, are_names, are_some_names, first_of, is_name_at, only_name, split};
 use crate::spellings::forms;
-use crate::{Sides, Statement, StatementFault};
+use crate::{Conditional, Sides, Statement, StatementFault};
 use circ_lexer::{Span, Tokens};
 use std::alloc::{AllocError, Global};
 
@@ -136,19 +137,35 @@ fn conditional(
         (λ o. GivesSaid o tokens.now (IsConditional (tokens_in tokens.now span))) }
 {
     let (body, exec) = unmarked(tokens, span);
-    let Some((front, rest)) = cut_once(tokens, body, b"if") else {
-        return Ok(None);
-    };
-    let Some(Sides { left, right }) = sides(tokens, front) else {
-        return Ok(None);
-    };
-    match conditions(alloc, tokens, rest)? {
-        Some(conds) => Ok(Some(Statement::Equation {
-            left,
-            right,
+    match under_conditions(alloc, tokens, body)? {
+        Some(Conditional { sides, conds }) => Ok(Some(Statement::Equation {
+            left: sides.left,
+            right: sides.right,
             conds,
             exec,
         })),
+        None => Ok(None),
+    }
+}
+
+/// The sides before the only `if` outside parentheses, and behind it the conditions, which are cut
+/// at each `/\` outside parentheses.
+pub fn under_conditions(
+    alloc: Global,
+    tokens: &Tokens<'_>,
+    span: Span,
+) -> Result<Option<Conditional>, AllocError>
+    requires { IsWithin tokens.now span }
+    ensures { IfOk result (λ o. GivesConditional o tokens.now span) }
+{
+    let Some((front, rest)) = cut_once(tokens, span, b"if") else {
+        return Ok(None);
+    };
+    let Some(sides) = sides(tokens, front) else {
+        return Ok(None);
+    };
+    match conditions(alloc, tokens, rest)? {
+        Some(conds) => Ok(Some(Conditional { sides, conds })),
         None => Ok(None),
     }
 }
@@ -216,8 +233,8 @@ fn push_condition(
     }
 }
 
-// The sides of the only equals sign.
-fn sides(tokens: &Tokens<'_>, span: Span) -> Option<Sides>
+/// The sides of the only equals sign.
+pub fn sides(tokens: &Tokens<'_>, span: Span) -> Option<Sides>
     requires { IsWithin tokens.now span }
     ensures { GivesSides result tokens.now span }
 {

@@ -23,6 +23,15 @@ pub struct Sides {
     pub right: Span,
 }
 
+/// Sides under conditions.
+#[derive(Drop)]
+pub struct Conditional {
+    /// The sides before the `if`.
+    pub sides: Sides,
+    /// The sides of each condition.
+    pub conds: Vec<Sides>,
+}
+
 /// A statement. Places and spans count tokens from 0.
 #[derive(Drop)]
 pub enum Statement {

@@ -9,14 +9,16 @@ use Rattle.circ_theory.specs.WellFormed.{IsWellFormed}
 use Rattle.circ_proof.specs.Proof.{Proof}
 use Rattle.circ_proof.specs.Accepted.{Derives, FirstFail}
 use Rattle.circ_plain_search.specs.Numbering.{Proved}
-use Rattle.circ_plain_search.specs.PlainSearch.{PlainSearch, AreSearchable, IsProofOf}
-use Rattle.circ_plain_search.specs.Search.{Limits as SearchLimits}
+use Rattle.circ_plain_search.specs.PlainSearch.{IsProofOf}
+use Rattle.circ_conditional_search.specs.ConditionalSearch.{ConditionalSearch, CanAllBeSearched}
+use Rattle.circ_conditional_search.specs.Search.{Manner}
 use Rattle.circ_top.specs.Answer.{Succeeds, Comes, RefusesCommand, DueAnswer, no_command, work_done, refusal, words_unread, AnswersDue, Succeeded}
 use Rattle.circ_top.specs.Causes.{AtFile, HasLongProof, IsPastLimit, IsReadFault, IsUnwritten, FailsToPut, IsWriteFault, IsQuietRun}
 use Rattle.circ_reports.specs.Check.{report_text, refused, accepted}
 use Rattle.circ_top.specs.Check.{Accepts, Rejects, FilesRead}
 use Rattle.circ_top.specs.Command.{Command, Check, Prove, Show, Contexts, Reduce, Same, Differ, Trace, Regex, Upgrade, Expand, Library, Generate, Asks, IsNotStored, stored_name}
-use Rattle.circ_search.specs.Plain.{plain_limits}
+use Rattle.circ_search.specs.Plain.{plain_limits, manner_with}
+use Rattle.circ_top.specs.Scripted.{to_prove, to_differ}
 use Rattle.circ_top.specs.Prove.{IsSearched, StoresProof}
 use Rattle.circ_top.specs.Delivery.{Prints, Delivers, whole, write_failed, memory_wanted, text_wanted}
 use Rattle.circ_files.specs.Files.{Held, IsUnread, IsTooLong, IsFileFault}
@@ -61,13 +63,13 @@ use Rattle.circ_top.proofs.Requests.{same_command}
 module _ (before after : ShelfState) where
   command_not_ok : (c : Command) (s : Status) → RefusesCommand c before after s → s ≡ status.Ok → ⊥
   command_not_ok (Check report theory proof) s r e = check_not_ok theory proof before after s r e
-  command_not_ok (Prove limits theory script proof) s r e = script_not_ok theory script before after s r e
+  command_not_ok (Prove limits theory script proof) s r e = script_not_ok to_prove theory script before after s r e
   command_not_ok (Show theory) s r e = file_fault_not_ok 1 theory TheoryRefusal before after s e r
   command_not_ok (Contexts budget theory) s r e = file_fault_not_ok 1 theory TheoryRefusal before after s e r
   command_not_ok (Reduce budget theory script) s r e = reduce_not_ok budget theory script before after s r e
   command_not_ok (Same first second) s r e = same_not_ok first second before after s r e
-  command_not_ok (Differ limits theory script) s r e = script_not_ok theory script before after s r e
-  command_not_ok (Trace limits theory script) s r e = script_not_ok theory script before after s r e
+  command_not_ok (Differ limits theory script) s r e = script_not_ok to_differ theory script before after s r e
+  command_not_ok (Trace limits theory script) s r e = script_not_ok to_prove theory script before after s r e
   command_not_ok (Regex limits left right proof) s r e = regex_not_ok left right s r e
   command_not_ok (Upgrade theory proof new) s r e = upgrade_not_ok theory proof before after s r e
   command_not_ok (Expand theory proof goal derivatives) s r e = expand_not_ok theory proof goal derivatives before after s r e
@@ -80,13 +82,13 @@ module _ (before after : ShelfState) where
   unread_command : (c : Command) (s : Status) (n : ℕ) → RefusesCommand c before after s → s ≡ status.ReadFault n
       → (n ≡ after.count) × AtFile before c (λ f name. IsUnread name before after)
   unread_command (Check report theory proof) s n r e = unread_check theory proof before after s n r e
-  unread_command (Prove limits theory script proof) s n r e = unread_script theory script before after s n r e
+  unread_command (Prove limits theory script proof) s n r e = unread_script to_prove theory script before after s n r e
   unread_command (Show theory) s n r e = let P : Status → Type 0 = IsFileFault 1 theory TheoryRefusal before after in subst P e r
   unread_command (Contexts budget theory) s n r e = let P : Status → Type 0 = IsFileFault 1 theory TheoryRefusal before after in subst P e r
   unread_command (Reduce budget theory script) s n r e = unread_reduce budget theory script before after s n r e
   unread_command (Same first second) s n r e = unread_same first second before after s n r e
-  unread_command (Differ limits theory script) s n r e = unread_script theory script before after s n r e
-  unread_command (Trace limits theory script) s n r e = unread_script theory script before after s n r e
+  unread_command (Differ limits theory script) s n r e = unread_script to_differ theory script before after s n r e
+  unread_command (Trace limits theory script) s n r e = unread_script to_prove theory script before after s n r e
   unread_command (Regex limits left right proof) s n r e = absurd (regex_not_unread left right s n r e)
   unread_command (Upgrade theory proof new) s n r e = unread_upgrade theory proof before after s n r e
   unread_command (Expand theory proof goal derivatives) s n r e = unread_expand theory proof goal derivatives before after s n r e
@@ -96,14 +98,14 @@ module _ (before after : ShelfState) where
   past_command : (c : Command) (s : Status) (file n : ℕ) → RefusesCommand c before after s → s ≡ status.TooLong file n
       → AtFile before c (λ f name. (f ≡ file) × IsTooLong name n before)
   past_command (Check report theory proof) s file n r e = past_check theory proof before after s file n r e
-  past_command (Prove limits theory script proof) s file n r e = past_script theory script before after s file n r e
+  past_command (Prove limits theory script proof) s file n r e = past_script to_prove theory script before after s file n r e
   past_command (Show theory) s file n r e = let P : Status → Type 0 = IsFileFault 1 theory TheoryRefusal before after in let x = subst P e r in (sym x.0, x.1)
   past_command (Contexts budget theory) s file n r e =
       let P : Status → Type 0 = IsFileFault 1 theory TheoryRefusal before after in let x = subst P e r in (sym x.0, x.1)
   past_command (Reduce budget theory script) s file n r e = past_reduce budget theory script before after s file n r e
   past_command (Same first second) s file n r e = past_same first second before after s file n r e
-  past_command (Differ limits theory script) s file n r e = past_script theory script before after s file n r e
-  past_command (Trace limits theory script) s file n r e = past_script theory script before after s file n r e
+  past_command (Differ limits theory script) s file n r e = past_script to_differ theory script before after s file n r e
+  past_command (Trace limits theory script) s file n r e = past_script to_prove theory script before after s file n r e
   past_command (Regex limits left right proof) s file n r e = absurd (regex_not_past left right s file n r e)
   past_command (Upgrade theory proof new) s file n r e = past_upgrade theory proof before after s file n r e
   past_command (Expand theory proof goal derivatives) s file n r e = past_expand theory proof goal derivatives before after s file n r e
@@ -112,13 +114,13 @@ module _ (before after : ShelfState) where
 
   unwritten_command : (c : Command) (s : Status) (n : ℕ) → RefusesCommand c before after s → s ≡ status.WriteFault n → ⊥
   unwritten_command (Check report theory proof) s n r e = unwritten_check theory proof before after s n r e
-  unwritten_command (Prove limits theory script proof) s n r e = unwritten_script theory script before after s n r e
+  unwritten_command (Prove limits theory script proof) s n r e = unwritten_script to_prove theory script before after s n r e
   unwritten_command (Show theory) s n r e = let P : Status → Type 0 = IsFileFault 1 theory TheoryRefusal before after in subst P e r
   unwritten_command (Contexts budget theory) s n r e = let P : Status → Type 0 = IsFileFault 1 theory TheoryRefusal before after in subst P e r
   unwritten_command (Reduce budget theory script) s n r e = unwritten_reduce budget theory script before after s n r e
   unwritten_command (Same first second) s n r e = unwritten_same first second before after s n r e
-  unwritten_command (Differ limits theory script) s n r e = unwritten_script theory script before after s n r e
-  unwritten_command (Trace limits theory script) s n r e = unwritten_script theory script before after s n r e
+  unwritten_command (Differ limits theory script) s n r e = unwritten_script to_differ theory script before after s n r e
+  unwritten_command (Trace limits theory script) s n r e = unwritten_script to_prove theory script before after s n r e
   unwritten_command (Regex limits left right proof) s n r e = regex_not_unwritten left right s n r e
   unwritten_command (Upgrade theory proof new) s n r e = unwritten_upgrade theory proof before after s n r e
   unwritten_command (Expand theory proof goal derivatives) s n r e = unwritten_expand theory proof goal derivatives before after s n r e
@@ -139,7 +141,8 @@ module _ (before : ShelfState) where
 
   pub work_end : (c : Command) (s : Status) (text : List ℕ) (stored : Option Stored) → Comes c s text stored before → IsSearchEnd s
   work_end (Check report theory proof) s text stored a = ok_end s a.0
-  work_end (Prove limits theory script proof) s text stored a = search_end a.th (plain_limits limits) proof a.sc.blocks s text stored a.ends
+  work_end (Prove limits theory script proof) s text stored a =
+      search_end a.done.th (manner_with limits) proof a.done.sc.blocks s text stored a.done.ends
   work_end (Show theory) s text stored a = ok_end s a.0
   work_end (Contexts budget theory) s text stored a = ok_end s a.0
   work_end (Reduce budget theory script) s text stored a = ok_end s a.0
@@ -147,7 +150,7 @@ module _ (before : ShelfState) where
   work_end (Differ limits theory script) s text stored a =
       (difference_end a.th limits.steps limits.derives a.sc.blocks (ending s text stored) a.ends).0
   work_end (Trace limits theory script) s text stored a = (trace_end a.th (plain_limits limits) a.sc.blocks (ending s text stored) a.ends).0
-  work_end (Regex limits left right proof) s text stored a = search_end LANG (plain_limits limits) proof (equality_goals a.e a.f) s text stored a.ends
+  work_end (Regex limits left right proof) s text stored a = search_end LANG (manner_with limits) proof (equality_goals a.e a.f) s text stored a.ends
   work_end (Upgrade theory proof new) s text stored a = ok_end s a.0
   work_end (Expand theory proof goal derivatives) s text stored a = ok_end s a.0
   work_end (Library given) s text stored a = ok_end s a.0
@@ -206,8 +209,8 @@ module _ (before : ShelfState) where
       → stored_name c ≡ Some x.name
   work_name (Check report theory proof) s text stored x a e = nothing_stored stored x a.1.1 e
   work_name (Prove limits theory script proof) s text stored x a e =
-      let P : Option Stored → Type 0 = λ y. SearchEnds a.th (plain_limits limits) proof a.sc.blocks (ending s text y) in
-      ap Some (sym (search_name a.th (plain_limits limits) proof a.sc.blocks s text x (subst P e a.ends)))
+      let P : Option Stored → Type 0 = λ y. SearchEnds a.done.th (manner_with limits) proof a.done.sc.blocks (ending s text y) in
+      ap Some (sym (search_name a.done.th (manner_with limits) proof a.done.sc.blocks s text x (subst P e a.done.ends)))
   work_name (Show theory) s text stored x a e = nothing_stored stored x a.1.1 e
   work_name (Contexts budget theory) s text stored x a e = nothing_stored stored x a.1.1 e
   work_name (Reduce budget theory script) s text stored x a e = nothing_stored stored x a.1.1 e
@@ -217,8 +220,8 @@ module _ (before : ShelfState) where
   work_name (Trace limits theory script) s text stored x a e =
       nothing_stored stored x (trace_end a.th (plain_limits limits) a.sc.blocks (ending s text stored) a.ends).1 e
   work_name (Regex limits left right proof) s text stored x a e =
-      let P : Option Stored → Type 0 = λ y. SearchEnds LANG (plain_limits limits) proof (equality_goals a.e a.f) (ending s text y) in
-      ap Some (sym (search_name LANG (plain_limits limits) proof (equality_goals a.e a.f) s text x (subst P e a.ends)))
+      let P : Option Stored → Type 0 = λ y. SearchEnds LANG (manner_with limits) proof (equality_goals a.e a.f) (ending s text y) in
+      ap Some (sym (search_name LANG (manner_with limits) proof (equality_goals a.e a.f) s text x (subst P e a.ends)))
   work_name (Upgrade theory proof new) s text stored x a e =
       ap (λ y. Some y.name) (same_Some (upgraded_file new a.1.p) x (sym a.1.stored_is ∙ e))
   work_name (Expand theory proof goal derivatives) s text stored x a e = nothing_stored stored x a.1.1 e
@@ -227,8 +230,8 @@ module _ (before : ShelfState) where
 
 -- what a search proves fits the theory, is accepted, and has exactly the given goals
 abbrev pub ProofsFound : Type 0
-ProofsFound = (th : Theory) → IsWellFormed th → (blocks : List (List Goal)) → AreSearchable th blocks → (limits : SearchLimits) (p : Proof)
-    → PlainSearch th blocks limits (Proved p) → IsProofOf th blocks p
+ProofsFound = (th : Theory) → IsWellFormed th → (blocks : List (List Goal)) → CanAllBeSearched th blocks → (manner : Manner) (p : Proof)
+    → ConditionalSearch th blocks manner (Proved p) → IsProofOf th blocks p
 
 -- the command that stores, where something is stored
 pub record StoredBy (words : List (List ℕ)) (x : Stored) : Type 0 where
@@ -285,17 +288,18 @@ module _ (words : List (List ℕ)) (before after : ShelfState) (start end : Sink
       let s = answers_succeed q e in
       let P : Command → Type 0 = λ c. Succeeds c s.text s.stored before in
       let a = subst P (same_command words s.command (Prove limits theory script proof) s.asks i) s.succeeds in
-      let ok = search_ok a.th (plain_limits limits) proof a.sc.blocks s.text s.stored a.ends in
-      let says = found a.th a.takes_theory.well_formed a.sc.blocks a.searchable (plain_limits limits) ok.p ok.search in
+      let d = a.done in
+      let ok = search_ok d.th (manner_with limits) proof d.sc.blocks s.text s.stored d.ends in
+      let says = found d.th d.takes_theory.well_formed d.sc.blocks a.searchable (manner_with limits) ok.p ok.search in
       let H : Option Stored → Type 0 = λ x. HoldsAfter x before after in
       let T : List ℕ → Type 0 = λ x. Prints x start end in
       let held = subst H ok.stored_is s.held in
       record {
-        th = a.th;
-        sc = a.sc;
+        th = d.th;
+        sc = d.sc;
         p = ok.p;
-        takes_theory = a.takes_theory;
-        takes_script = a.takes_script;
+        takes_theory = record { bytes = d.takes_theory.bytes; well_formed = d.takes_theory.well_formed; reads = d.takes_theory.reads };
+        takes_script = d.takes_script;
         proof_for = says.fits;
         accepted = says.accepted;
         goals = says.goals;
@@ -312,8 +316,8 @@ module _ (words : List (List ℕ)) (before after : ShelfState) (start end : Sink
       let s = answers_succeed q e in
       let P : Command → Type 0 = λ c. Succeeds c s.text s.stored before in
       let a = subst P (same_command words s.command (Regex limits left right proof) s.asks i) s.succeeds in
-      let ok = search_ok LANG (plain_limits limits) proof (equality_goals a.e a.f) s.text s.stored a.ends in
-      let says = found LANG a.well_formed (equality_goals a.e a.f) a.searchable (plain_limits limits) ok.p ok.search in
+      let ok = search_ok LANG (manner_with limits) proof (equality_goals a.e a.f) s.text s.stored a.ends in
+      let says = found LANG a.well_formed (equality_goals a.e a.f) a.searchable (manner_with limits) ok.p ok.search in
       let H : Option Stored → Type 0 = λ x. HoldsAfter x before after in
       let T : List ℕ → Type 0 = λ x. Prints x start end in
       let held = subst H ok.stored_is s.held in
@@ -349,7 +353,12 @@ module _ (words : List (List ℕ)) (before after : ShelfState) (start end : Sink
           record {
             th = w.th;
             sc = w.sc;
-            takes_theory = w.takes_theory;
+            takes_theory = record {
+              bytes = w.takes_theory.bytes;
+              well_formed = w.takes_theory.well_formed;
+              plain = w.takes_theory.bytes.are.plain;
+              reads = w.takes_theory.reads;
+            };
             takes_script = w.takes_script;
             goal = w.ends.decision.goal;
             told_apart = y.told_apart;
@@ -369,7 +378,7 @@ module _ (words : List (List ℕ)) (before after : ShelfState) (start end : Sink
       go d text stored (work_done c _ _ _ j x) _ (whole p) e q = done c d text stored j x e p q
       go _ _ _ (refusal c s j f) _ (whole p) e q =
           let P : Command → Type 0 = λ y. RefusesCommand y before after s in
-          absurd (script_not_apart theory script before after s n (subst P (same_command words c (Differ limits theory script) j i) f) e)
+          absurd (script_not_apart to_differ theory script before after s n (subst P (same_command words c (Differ limits theory script) j i) f) e)
       go _ _ _ words_unread _ (whole p) e q = absurd (cc)
       go d text stored x _ (write_failed m some k rose p) e q = absurd (cc)
       go d text stored x _ (memory_wanted m p) e q = absurd (cc)
@@ -430,13 +439,13 @@ module _ (words : List (List ℕ)) (before after : ShelfState) (start end : Sink
       rejects (Check report theory proof) s i f e p q =
           let P : Status → Type 0 = λ x. Prints (refusal_text (Check report theory proof) x) start end in
           record { theory = theory; proof = proof; asks = inl (report, i); refused = check_refused theory proof before after s n f e; quiet = q; prints = subst P e p }
-      rejects (Prove limits theory script proof) s i f e p q = absurd (script_not_refused theory script before after s n f e)
+      rejects (Prove limits theory script proof) s i f e p q = absurd (script_not_refused to_prove theory script before after s n f e)
       rejects (Show theory) s i f e p q = absurd (command_not_refused before after theory s n f e)
       rejects (Contexts budget theory) s i f e p q = absurd (file_fault_not_refused 1 theory TheoryRefusal before after s n e f)
       rejects (Reduce budget theory script) s i f e p q = absurd (reduce_not_refused budget theory script before after s n f e)
       rejects (Same first second) s i f e p q = absurd (same_not_refused first second before after s n f e)
-      rejects (Differ limits theory script) s i f e p q = absurd (script_not_refused theory script before after s n f e)
-      rejects (Trace limits theory script) s i f e p q = absurd (script_not_refused theory script before after s n f e)
+      rejects (Differ limits theory script) s i f e p q = absurd (script_not_refused to_differ theory script before after s n f e)
+      rejects (Trace limits theory script) s i f e p q = absurd (script_not_refused to_prove theory script before after s n f e)
       rejects (Regex limits left right proof) s i f e p q = absurd (regex_not_refused left right s n f e)
       rejects (Upgrade theory proof new) s i f e p q = absurd (upgrade_not_refused theory proof before after s n f e)
       rejects (Expand theory proof goal derivatives) s i f e p q =

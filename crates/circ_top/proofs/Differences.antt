@@ -14,7 +14,7 @@ use Rattle.circ_files.specs.declared.status.Status.TheVariants as status
 use Rattle.circ_found.specs.Differing.{differs_text, limit_ending, refuted_ending, decision_ending, DifferEnds}
 use Rattle.circ_files.specs.Ending.{Stored, Ending, ending}
 use Rattle.circ_top.specs.Differ.{DifferenceSought, IsDifferenceSought}
-use Rattle.circ_top.specs.Scripted.{IsDoneOn}
+use Rattle.circ_top.specs.Scripted.{to_differ, IsDoneOn}
 use Rattle.circ_top.proofs.ScriptOutcomes.{EndsOnce}
 use Rattle.circ_top.proofs.Searches.{IsSearchEnd}
 use Rattle.circ_turn.specs.declared.search.Limits.{Limits}
@@ -25,11 +25,10 @@ one_difference limits th blocks d e a b = sym a ∙ b
 
 -- what is answered is what the plain refutation finds
 pub difference_done : (limits : Limits) (theory script : List ℕ) (e : Ending) (before : ShelfState) → IsDifferenceSought limits theory script e before
-    → IsDoneOn theory script (DifferenceSought limits) e before
+    → IsDoneOn to_differ theory script (DifferenceSought limits) e before
 difference_done limits theory script e before a = record {
   th = a.th;
   sc = a.sc;
-  searchable = a.searchable;
   ends = ap (decision_ending a.th limits.steps limits.derives) a.ends.found ∙ a.ends.is;
   takes_theory = a.takes_theory;
   takes_script = a.takes_script;

@@ -3,11 +3,11 @@ use Rattle.std.proofs.Common.{◌≡◌, ◌≢◌, ◌≤◌, ◌^◌, max, ℕ
 use Rattle.circ_term.specs.Tree.{Tree, sort_of}
 use Rattle.circ_term.specs.Limits.{IsWithinLimits}
 use Rattle.circ_theory.specs.Signature.{IsWellSorted}
-use Rattle.circ_theory.specs.Theory.{HasNoConditions, goal}
+use Rattle.circ_theory.specs.Theory.{goal}
 use Rattle.circ_theory.specs.Fresh.{above, fresh_in}
 use Rattle.circ_theory.specs.declared.parts.Goal.{Goal}
 use Rattle.circ_proof.proofs.Members.{nothing}
-use Rattle.circ_plain_search.specs.PlainSearch.{AreSearchable}
+use Rattle.circ_conditional_search.specs.ConditionalSearch.{CanAllBeSearched}
 use Rattle.circ_regex.specs.Lang.{LANG, lang_sort}
 use Rattle.circ_regex.specs.Matches.{Expression, no_word, empty_word, one_letter, either_of, in_turn, any_number, a_letter, b_letter}
 use Rattle.circ_regex.specs.Member.{expression_term}
@@ -23,14 +23,12 @@ no_variable (either_of e f) = rw (no_variable e, no_variable f) refl
 no_variable (in_turn e f) = rw (no_variable e, no_variable f) refl
 no_variable (any_number e) = rw (no_variable e) refl
 
-module _ (sorted : (e : Expression) → IsWellSorted LANG.signature (expression_term e)) (sorts : (e : Expression) → sort_of (expression_term e) ≡ lang_sort)
-    (plain : HasNoConditions LANG) (e f : Expression) where
+module _ (sorted : (e : Expression) → IsWellSorted LANG.signature (expression_term e)) (sorts : (e : Expression) → sort_of (expression_term e) ≡ lang_sort) (e f : Expression) where
   no_fresh : fresh_in (goal [] (expression_term e) (expression_term f)) ≤ 2 ^ 31
   no_fresh = rw (no_variable e, no_variable f) (omega arith)
 
-  pub equality_searchable : IsWithinLimits (expression_term e) → IsWithinLimits (expression_term f) → AreSearchable LANG (equality_goals e f)
+  pub equality_searchable : IsWithinLimits (expression_term e) → IsWithinLimits (expression_term f) → CanAllBeSearched LANG (equality_goals e f)
   equality_searchable left right = record {
-    no_conditions = plain;
     some_block = λ n. cc;
     some_goal = ((λ n. cc), tt);
     goals = (
@@ -40,9 +38,10 @@ module _ (sorted : (e : Expression) → IsWellSorted LANG.signature (expression_
             sorted = record { left = sorted e; right = sorted f; same_sort = sorts f ∙ sym (sorts e) };
             conds = λ p c. nothing p c;
           };
-          no_conds = refl;
           left_within = left;
           right_within = right;
+          conds_within = tt;
+          few_conds = omega arith;
           numbers = no_fresh;
         },
         tt,

@@ -16,16 +16,17 @@ use Rattle.circ_top.specs.Storing.{HoldsAfter, IsUnstored, Ends, stored_first, n
 use Rattle.circ_top.specs.Refusals.{usage_text, refusal_text}
 use Rattle.circ_files.specs.declared.status.Status.{Status}
 use Rattle.circ_files.specs.declared.status.Status.TheVariants as status
-use Rattle.circ_files.proofs.Readings.{ReadsOnce, reads_plain_once}
+use Rattle.circ_files.proofs.Readings.{ReadsOnce}
 use Rattle.circ_top.proofs.Agreeing.{DueIs, outcome, nothing_read, no_memory_left, Agrees, alike, AgreesWith, agreed, memory_with, stored_nothing, PrintsOnce, agree_answers, answers_part}
 use Rattle.circ_files.specs.Ending.{ending}
 use Rattle.circ_reports.specs.Contexts.{ContextsOutcome}
 use Rattle.circ_top.proofs.ContextsOutcomes.{due_contexts, listed_outcome, contexts_agrees, listed_agrees}
 use Rattle.circ_top.proofs.GenerateOutcomes.{generates_alike}
 use Rattle.circ_top.specs.Prove.{ProofSought}
-use Rattle.circ_top.proofs.ScriptOutcomes.{EndsOnce, due_script, done_outcome, refused_agrees, done_agrees}
+use Rattle.circ_top.proofs.ScriptOutcomes.{EndsOnce, to_prove_once, to_differ_once, due_script, done_outcome, refused_agrees, done_agrees}
+use Rattle.circ_top.specs.Scripted.{to_prove, to_differ}
 use Rattle.circ_top.proofs.Searches.{SearchesOnce, one_ending}
-use Rattle.circ_search.specs.Plain.{plain_limits}
+use Rattle.circ_search.specs.Plain.{manner_with}
 use Rattle.circ_turn.specs.declared.search.Limits.{Limits}
 use Rattle.circ_top.proofs.CheckOutcomes.{due_check, accepted_outcome, check_agrees, accepted_agrees}
 use Rattle.circ_top.proofs.ShowOutcomes.{due_show, shown_outcome, show_agrees, shown_agrees}
@@ -50,15 +51,15 @@ due_refusal : (words : List (List ℕ)) (before after : ShelfState) (c : Command
     → DueIs words before after s (refusal_text c s) None
 due_refusal words before after (Check report theory proof) s t i r = due_check words report theory proof before after s t i r
 due_refusal words before after (Prove limits theory script proof) s t i r =
-    due_script (Prove limits theory script proof) theory script (ProofSought limits proof) before after words s (λ u text x. x) t i r
+    due_script to_prove (Prove limits theory script proof) theory script (ProofSought limits proof) before after words s (λ u text x. x) t i r
 due_refusal words before after (Show theory) s t i r = due_show words theory before after s t i r
 due_refusal words before after (Contexts budget theory) s t i r = due_contexts words budget theory before after s t i r
 due_refusal words before after (Reduce budget theory script) s t i r = due_reduce budget theory script before after words s t i r
 due_refusal words before after (Same first second) s t i r = due_same first second before after words s t i r
 due_refusal words before after (Differ limits theory script) s t i r =
-    due_script (Differ limits theory script) theory script (DifferenceSought limits) before after words s (λ u text x. x) t i r
+    due_script to_differ (Differ limits theory script) theory script (DifferenceSought limits) before after words s (λ u text x. x) t i r
 due_refusal words before after (Trace limits theory script) s t i r =
-    due_script (Trace limits theory script) theory script (TraceSought limits) before after words s (λ u text x. x) t i r
+    due_script to_prove (Trace limits theory script) theory script (TraceSought limits) before after words s (λ u text x. x) t i r
 due_refusal words before after (Regex limits left right proof) s t i r = due_regex limits left right proof words before after i s r
 due_refusal words before after (Upgrade theory proof new) s t i r = due_upgrade theory proof new before after words s t i r
 due_refusal words before after (Expand theory proof goal derivatives) s t i r = due_expand words theory proof goal derivatives before after s t i r
@@ -73,7 +74,7 @@ due_work (Check report theory proof) s text stored before t a =
     let P : Status → Type 0 = λ x. CheckOutcome before.holds report theory proof x text in
     (subst P (sym a.0) (accepted_outcome theory proof before before report text t a.1.0), a.1.1)
 due_work (Prove limits theory script proof) s text stored before t a =
-    done_outcome (Prove limits theory script proof) theory script (ProofSought limits proof) before before s text stored t a
+    done_outcome to_prove (Prove limits theory script proof) theory script (ProofSought limits proof) before before s text stored t a.done
 due_work (Show theory) s text stored before t a =
     let P : Status → Type 0 = λ x. ShowOutcome before.holds theory x text in (subst P (sym a.0) (shown_outcome theory text before t a.1.0), a.1.1)
 due_work (Contexts budget theory) s text stored before t a =
@@ -84,10 +85,10 @@ due_work (Reduce budget theory script) s text stored before t a =
     (subst P (sym a.0) (reduced_outcome budget theory script before before text t a.1.0), a.1.1)
 due_work (Same first second) s text stored before t a = (compared_outcome first second before s text t a.0, a.1)
 due_work (Differ limits theory script) s text stored before t a =
-    done_outcome (Differ limits theory script) theory script (DifferenceSought limits) before before s text stored t
+    done_outcome to_differ (Differ limits theory script) theory script (DifferenceSought limits) before before s text stored t
     (difference_done limits theory script (ending s text stored) before a)
 due_work (Trace limits theory script) s text stored before t a =
-    done_outcome (Trace limits theory script) theory script (TraceSought limits) before before s text stored t a
+    done_outcome to_prove (Trace limits theory script) theory script (TraceSought limits) before before s text stored t a
 due_work (Regex limits left right proof) s text stored before t a = equality_outcome limits left right proof s text stored a
 due_work (Upgrade theory proof new) s text stored before t a =
     let P : Status → Type 0 = λ x. UpgradeOutcome before.holds theory proof new x text stored in
@@ -100,7 +101,7 @@ due_work (Generate n) s text stored before t a = a
 
 -- a search ends in one way
 one_search : SearchesOnce → (limits : Limits) (name : List ℕ) → EndsOnce (ProofSought limits name)
-one_search searches limits name th blocks d e = one_ending th (plain_limits limits) name blocks searches d e
+one_search searches limits name th blocks d e = one_ending th (manner_with limits) name blocks searches d e
 
 pub due_is : (words : List (List ℕ)) (before after : ShelfState) (s : Status) (text : List ℕ) (stored : Option Stored) → before.tells ≡ true
     → DueAnswer words before after s text stored → DueIs words before after s text stored
@@ -119,7 +120,7 @@ module _ (once : ReadsOnce) (proofs : ProofsOnce) (scripts : ScriptsOnce) (autom
       stored_nothing before after s text stored r (refusal_text (Check report theory proof) r) c.1
       (check_agrees once proofs report theory proof before after t r s text f c.0)
   refusal_agrees (Prove limits theory script proof) s r text stored c f =
-      refused_agrees (reads_plain_once once) scripts (Prove limits theory script proof) theory script (ProofSought limits proof)
+      refused_agrees to_prove (to_prove_once once) scripts (Prove limits theory script proof) theory script (ProofSought limits proof)
       (one_search searches limits proof) before after t r s text stored f c
   refusal_agrees (Show theory) s r text stored c f =
       stored_nothing before after s text stored r (refusal_text (Show theory) r) c.1 (show_agrees once theory before after t r s text f c.0)
@@ -133,10 +134,10 @@ module _ (once : ReadsOnce) (proofs : ProofsOnce) (scripts : ScriptsOnce) (autom
       stored_nothing before after s text stored r (refusal_text (Same first second) r) c.1
       (same_agrees automata first second before after t r s text f c.0)
   refusal_agrees (Differ limits theory script) s r text stored c f =
-      refused_agrees (reads_plain_once once) scripts (Differ limits theory script) theory script (DifferenceSought limits) (one_difference limits)
+      refused_agrees to_differ (to_differ_once once) scripts (Differ limits theory script) theory script (DifferenceSought limits) (one_difference limits)
       before after t r s text stored f c
   refusal_agrees (Trace limits theory script) s r text stored c f =
-      refused_agrees (reads_plain_once once) scripts (Trace limits theory script) theory script (TraceSought limits) (one_trace limits)
+      refused_agrees to_prove (to_prove_once once) scripts (Trace limits theory script) theory script (TraceSought limits) (one_trace limits)
       before after t r s text stored f c
   refusal_agrees (Regex limits left right proof) s r text stored c f =
       regex_agrees limits left right proof expressions searches before after r s text stored f c
@@ -162,8 +163,8 @@ module _ (once : ReadsOnce) (proofs : ProofsOnce) (scripts : ScriptsOnce) (autom
   work_agrees (Check report theory proof) s r text given stored other c a =
       ok_agrees s r text given stored other a.0 a.1.1 c.1 (accepted_agrees once proofs report theory proof before after t given a.1.0 s text c.0)
   work_agrees (Prove limits theory script proof) s r text given stored other c a =
-      done_agrees (reads_plain_once once) scripts (Prove limits theory script proof) theory script (ProofSought limits proof)
-      (one_search searches limits proof) before after t r given other a s text stored c
+      done_agrees to_prove (to_prove_once once) scripts (Prove limits theory script proof) theory script (ProofSought limits proof)
+      (one_search searches limits proof) before after t r given other a.done s text stored c
   work_agrees (Show theory) s r text given stored other c a =
       ok_agrees s r text given stored other a.0 a.1.1 c.1 (shown_agrees once theory before after t printed_once given a.1.0 s text c.0)
   work_agrees (Contexts budget theory) s r text given stored other c a =
@@ -174,10 +175,10 @@ module _ (once : ReadsOnce) (proofs : ProofsOnce) (scripts : ScriptsOnce) (autom
       let Q : Option Stored → Type 0 = λ x. AgreesWith before after s text stored r given x in
       subst Q (sym a.1) (stored_nothing before after s text stored r given c.1 (compared_agrees automata first second before after t r given a.0 s text c.0))
   work_agrees (Differ limits theory script) s r text given stored other c a =
-      done_agrees (reads_plain_once once) scripts (Differ limits theory script) theory script (DifferenceSought limits) (one_difference limits)
+      done_agrees to_differ (to_differ_once once) scripts (Differ limits theory script) theory script (DifferenceSought limits) (one_difference limits)
       before after t r given other (difference_done limits theory script (ending r given other) before a) s text stored c
   work_agrees (Trace limits theory script) s r text given stored other c a =
-      done_agrees (reads_plain_once once) scripts (Trace limits theory script) theory script (TraceSought limits) (one_trace limits)
+      done_agrees to_prove (to_prove_once once) scripts (Trace limits theory script) theory script (TraceSought limits) (one_trace limits)
       before after t r given other a s text stored c
   work_agrees (Regex limits left right proof) s r text given stored other c a =
       equality_agrees limits left right proof expressions searches before after r given other a s text stored c
@@ -192,7 +193,7 @@ module _ (once : ReadsOnce) (proofs : ProofsOnce) (scripts : ScriptsOnce) (autom
       ok_agrees s r text given stored other a.0 a.1.1 c.1
       (subst Q (sym c.0.0) (alike status.Ok given (subst P (c.0.1 ∙ sym a.1.0) (itself status.Ok text))))
   work_agrees (Generate n) s r text given stored other c a =
-      let same = generates_alike (reads_plain_once once) scripts searches n (ending s text stored) (ending r given other) c a in agreed r given other same.0 (sym same.1)
+      let same = generates_alike once scripts searches n (ending s text stored) (ending r given other) c a in agreed r given other same.0 (sym same.1)
 
   due_agrees : (s r : Status) (text given : List ℕ) (stored other : Option Stored) → Outcome words before.holds s text stored
       → DueAnswer words before after r given other

@@ -1,5 +1,6 @@
 -- What `clap` makes of words that are taken as they stand.
-use Rattle.std.proofs.Common.{◌≡◌, ℕ, List, [], ◌∷◌, false, codes, refl, ap, Some, None}
+use Rattle.std.proofs.Common.{◌≡◌, ℕ, Bool, List, [], ◌∷◌, length, true, false, codes, refl, sym, ◌∙◌, ap, arith, Option, Some, None}
+use Rattle.std.specs.Option.{option_map_or}
 use Rattle.std.proofs.lemmas.Bool.{ne_eqb}
 use Rattle.std.specs.Str.{bytes_eq}
 use Rattle.clap.specs.Faults.{walk_fault, defaults_fault}
@@ -7,10 +8,18 @@ use Rattle.clap.specs.Lexer.{long_of, short_of}
 use Rattle.clap.specs.Walk.{walked}
 use Rattle.circ_top.specs.Command.{Command, IsCommand, Asks, IsNoCommand}
 use Rattle.circ_top.specs.PlainWords.{IsPlainWord, usual_limits}
+use Rattle.circ_top.specs.Words.{IsFlag}
 
 pub no_words : IsNoCommand []
 unfolding walk_fault walked defaults_fault
 no_words c a = let never = a.taken in cc
+
+-- a flag of which the value is `false` is not set
+unset : {value : Option (List ℕ)} → value ≡ Some (codes "false") → IsFlag value false
+unset e = (
+  λ t. absurd (let never : false ≡ true = t in cc),
+  λ h. absurd (let never : 5 ≡ 4 = ap (λ o. option_map_or length o 0) (sym e ∙ h) in omega (arith, never)),
+)
 
 -- no flag, and not `--`
 record IsNoFlag (word : List ℕ) : Type 0 where
@@ -38,6 +47,7 @@ module _ (program name : List ℕ) where
         finds = record {
           steps = rw (n.not_minuses, n.not_long, n.not_short, a.not_minuses, a.not_long, a.not_short) refl;
           derives = rw (n.not_minuses, n.not_long, n.not_short, a.not_minuses, a.not_long, a.not_short) refl;
+          split = rw (n.not_minuses, n.not_long, n.not_short, a.not_minuses, a.not_long, a.not_short) (unset refl);
           name_is = rw (n.not_minuses, n.not_long, n.not_short, a.not_minuses, a.not_long, a.not_short) (refl {a = Some name});
           given_are = rw (n.not_minuses, n.not_long, n.not_short, a.not_minuses, a.not_long, a.not_short) (refl {a = Some (word ∷ [])});
         };
@@ -59,6 +69,7 @@ module _ (program name : List ℕ) where
         finds = record {
           steps = rw (n.not_minuses, n.not_long, n.not_short, a.not_minuses, a.not_long, a.not_short, b.not_minuses, b.not_long, b.not_short) refl;
           derives = rw (n.not_minuses, n.not_long, n.not_short, a.not_minuses, a.not_long, a.not_short, b.not_minuses, b.not_long, b.not_short) refl;
+          split = rw (n.not_minuses, n.not_long, n.not_short, a.not_minuses, a.not_long, a.not_short, b.not_minuses, b.not_long, b.not_short) (unset refl);
           name_is = rw (n.not_minuses, n.not_long, n.not_short, a.not_minuses, a.not_long, a.not_short, b.not_minuses, b.not_long, b.not_short) (refl {a = Some name});
           given_are = rw (n.not_minuses, n.not_long, n.not_short, a.not_minuses, a.not_long, a.not_short, b.not_minuses, b.not_long, b.not_short) (refl {a = Some (first ∷ second ∷ [])});
         };
@@ -73,6 +84,6 @@ module _ (program name : List ℕ) where
     name = name;
     given = first ∷ second ∷ [];
     taken = refl;
-    finds = record { steps = refl; derives = refl; name_is = refl; given_are = refl };
+    finds = record { steps = refl; derives = refl; split = unset refl; name_is = refl; given_are = refl };
     is = i;
   }

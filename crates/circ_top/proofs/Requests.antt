@@ -1,5 +1,5 @@
 -- What words ask for.
-use Rattle.std.proofs.Common.{◌≡◌, ◌<◌, ◌≤◌, ◌^◌, ◌+◌, ◌-◌, ◌*◌, ◌==◌, ℕ, Bool, Bor, List, [], ◌∷◌, ◌++◌, length, take, drop, slice_index_or, decimal, codes, refl, ap, ap₂, sym, ◌∙◌, subst, arith, Option, Some, None, map, if◌then◌else◌}
+use Rattle.std.proofs.Common.{◌≡◌, ◌<◌, ◌≤◌, ◌^◌, ◌+◌, ◌-◌, ◌*◌, ◌==◌, ℕ, Bool, true, false, Bor, List, [], ◌∷◌, ◌++◌, length, take, drop, slice_index_or, decimal, codes, refl, ap, ap₂, sym, ◌∙◌, subst, arith, Option, Some, None, map, if◌then◌else◌}
 use Rattle.std.specs.Prelude.{MatchOption, IfOk, Result, Ok, Err}
 use Rattle.std.proofs.lemmas.Fmt.{decimal_injective}
 use Rattle.std.proofs.lemmas.List.{drop_more, take_rest}
@@ -11,7 +11,7 @@ use Rattle.circ_lib.specs.Library.{library_text}
 use Rattle.circ_top.specs.Command.{Command, Check, Prove, Show, Contexts, Reduce, Same, Differ, Trace, Regex, Upgrade, Expand, Library, Generate}
 use Rattle.circ_top.specs.Command.{IsCommand, check, prove, show, contexts, reduce, same, differ, trace, regex, upgrade, expand, library, generate, IsNoneOfTable}
 use Rattle.circ_top.specs.Command.{AreNumbersOf, AreNoNumbers, Asks, IsNoCommand, IsBounded, plain_request}
-use Rattle.circ_top.specs.Words.{circ_app, IsNoNumber, IsBudget, Finds, FindsNothing}
+use Rattle.circ_top.specs.Words.{circ_app, IsNoNumber, IsBudget, IsFlag, Finds, FindsNothing}
 use Rattle.circ_reports.specs.declared.report.Report.{Report}
 use Rattle.circ_reports.specs.declared.report.Report.TheVariants.{Goals, Relation}
 use Rattle.circ_top.specs.declared.request.Request.{Request}
@@ -187,12 +187,22 @@ same_budget : (usual most : ℕ) (value : Option (List ℕ)) (m n : ℕ) → mos
 same_budget usual most None m n small a b = a ∙ sym b
 same_budget usual most (Some text) m n small a b = decimal_injective m n (omega (arith, small, a.1)) (omega (arith, small, b.1)) (sym a.0 ∙ b.0)
 
+same_flag : (value : Option (List ℕ)) (a b : Bool) → IsFlag value a → IsFlag value b → a ≡ b
+same_flag value true true f g = refl
+same_flag value true false f g = sym (g.1 (f.0 refl))
+same_flag value false true f g = f.1 (g.0 refl)
+same_flag value false false f g = refl
+
+abbrev limits_of : (steps derives : ℕ) → Bool → Limits
+limits_of n m b = record { steps = n; derives = m; split = b }
+
 module _ (rows : List Row) (k l : Limits) (m n : List ℕ) (v w : List (List ℕ)) (f : Finds rows k m v) (g : Finds rows l n w) where
   same_limits : k ≡ l
   same_limits =
-      ap₂ (λ steps derives. record { steps = steps; derives = derives })
-      (same_budget 100000 1000000 (first_of (codes "steps") rows) k.steps l.steps (omega arith) f.steps g.steps)
-      (same_budget 256 10000 (first_of (codes "derives") rows) k.derives l.derives (omega arith) f.derives g.derives)
+      let steps = same_budget 100000 1000000 (first_of (codes "steps") rows) k.steps l.steps (omega arith) f.steps g.steps in
+      let derives = same_budget 256 10000 (first_of (codes "derives") rows) k.derives l.derives (omega arith) f.derives g.derives in
+      let split = same_flag (first_of (codes "split") rows) k.split l.split f.split g.split in
+      ap₂ (λ n m. limits_of n m k.split) steps derives ∙ ap (limits_of l.steps l.derives) split
 
   same_name : m ≡ n
   same_name = same_Some m n (sym f.name_is ∙ g.name_is)

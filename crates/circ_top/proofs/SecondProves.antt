@@ -9,7 +9,8 @@ use Rattle.circ_script.specs.ReadsAsScript.{ReadsAsScript}
 use Rattle.circ_script.specs.declared.job.Job.TheVariants as job
 use Rattle.circ_files.specs.Files.{Held, Holds, HoldsMore, Refusal, RefusesFile}
 use Rattle.circ_files.specs.ScriptFile.{ScriptRefusal}
-use Rattle.circ_files.specs.TheoryFile.{ReadsAsPlain, PlainTheoryRefusal}
+use Rattle.circ_files.specs.TheoryFile.{TheoryRefusal}
+use Rattle.circ_read.specs.ReadsAs.{ReadsAs}
 use Rattle.circ_files.specs.declared.status.Status.{Status}
 use Rattle.circ_files.specs.declared.status.Status.TheVariants as status
 use Rattle.circ_files.specs.Ending.{Stored}
@@ -58,14 +59,14 @@ module _ (held later : Held) (k : Limits) (theory script other next name : List 
       → ProveOutcome later k other next name s text stored
   proves_too s _ _ (no_theory _ r) =
       let P : List ℕ → Type 0 = λ t. ProveOutcome later k other next name s t None in
-      subst P (same_text k other next name theory script name s) (no_theory s (refuses_too held later theory other a 1 PlainTheoryRefusal s r))
+      subst P (same_text k other next name theory script name s) (no_theory s (refuses_too held later theory other a 1 TheoryRefusal s r))
   proves_too s _ _ (no_script _ th ru r) =
       let P : List ℕ → Type 0 = λ t. ProveOutcome later k other next name s t None in
       subst P (same_text k other next name theory script name s)
-      (no_script s th (holds_too held later theory other a (λ x. ReadsAsPlain x th) ru)
+      (no_script s th (holds_too held later theory other a (λ x. ReadsAs x th) ru)
       (refuses_too held later script next b 2 (ScriptRefusal th job.Prove) s r))
   proves_too s text stored (goals_done _ _ _ th sc ru rq x) =
-      goals_done s text stored th sc (holds_too held later theory other a (λ y. ReadsAsPlain y th) ru)
+      goals_done s text stored th sc (holds_too held later theory other a (λ y. ReadsAs y th) ru)
       (holds_too held later script next b (λ y. ReadsAsScript th job.Prove y sc) rq) x
 
   pub comes_too : (words second : List (List ℕ)) → Asks words (Prove k theory script name) → Asks second (Prove k other next name)

@@ -1,17 +1,16 @@
 -- What `trace` answers.
-use Rattle.std.proofs.Common.{◌≡◌, List, [], sym, ap, subst, Option, None}
+use Rattle.std.proofs.Common.{◌≡◌, List, [], sym, ap, subst, None}
 use Rattle.circ_theory.specs.Theory.{Theory}
 use Rattle.circ_theory.specs.declared.parts.Goal.{Goal}
 use Rattle.circ_plain_search.specs.Search.{Limits}
-use Rattle.circ_files.specs.declared.status.Status.{Status}
 use Rattle.circ_files.specs.Ending.{Ending}
 use Rattle.circ_trace.specs.Tracing.{TraceEnds}
-use Rattle.circ_trace.proofs.Traces.{as_search}
+use Rattle.circ_trace.proofs.Traces.{trace_found}
 use Rattle.circ_trace.proofs.Traces as traces
 use Rattle.circ_search.specs.Plain.{plain_limits}
 use Rattle.circ_top.specs.Trace.{TraceSought}
 use Rattle.circ_top.proofs.ScriptOutcomes.{EndsOnce}
-use Rattle.circ_top.proofs.Searches.{IsSearchEnd, search_end}
+use Rattle.circ_top.proofs.Searches.{IsSearchEnd, found_end}
 use Rattle.circ_turn.specs.declared.search.Limits.{Limits as TheLimits}
 
 -- a trace ends in one way
@@ -21,6 +20,5 @@ one_trace limits th blocks d e a b = traces.one_answer th (plain_limits limits) 
 -- a trace ends as a search, and stores nothing
 pub trace_end : (th : Theory) (l : Limits) (blocks : List (List Goal)) (e : Ending) → TraceEnds th l blocks e → IsSearchEnd e.status × (e.stored ≡ None)
 trace_end th l blocks e t =
-    let x = as_search th l blocks e t in
-    let f : Ending = x.0 in
-    (subst IsSearchEnd (sym (ap (λ y. y.status) x.3)) (search_end th l [] blocks f.status f.text f.stored x.1), ap (λ y. y.stored) x.3)
+    let x = trace_found th l blocks e t in
+    (subst IsSearchEnd (sym (ap (λ y. y.status) x.2)) (found_end th.signature [] x.0).0, ap (λ y. y.stored) x.2)

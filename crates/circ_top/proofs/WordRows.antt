@@ -3,7 +3,7 @@ use Rattle.std.proofs.Common.{◌≡◌, ◌<◌, ◌≤◌, ◌^◌, ℕ, List,
 use Rattle.std.specs.Str.Parse.{ParsesUnsigned}
 use Rattle.std.proofs.lemmas.Fmt.{parse-decimal}
 use Rattle.clap.specs.Walk.{Row, all_of, first_of}
-use Rattle.circ_top.specs.Words.{IsNoNumber, IsBudget, IsNoBudget, Finds, FindsNothing}
+use Rattle.circ_top.specs.Words.{IsNoNumber, IsBudget, IsNoBudget, IsFlag, Finds, FindsNothing}
 use Rattle.circ_turn.specs.declared.search.Limits.{Limits}
 
 -- a text that does not parse, or parses as another number, is no number within the limit
@@ -32,7 +32,7 @@ module _ (rows : List Row) where
   pub none_given : None ≡ all_of (codes "words") rows → FindsNothing rows
   none_given e limits name given f = let never : None ≡ Some given = e ∙ f.given_are in cc
 
-  pub finds : (s d : Option (List ℕ)) (limits : Limits) (name : List ℕ) (given : List (List ℕ)) → s ≡ first_of (codes "steps") rows
+  pub finds : (s d p : Option (List ℕ)) (limits : Limits) (name : List ℕ) (given : List (List ℕ)) → s ≡ first_of (codes "steps") rows
       → IsBudget 100000 1000000 s limits.steps → d ≡ first_of (codes "derives") rows → IsBudget 256 10000 d limits.derives
-      → Some name ≡ first_of (codes "command") rows → Some given ≡ all_of (codes "words") rows → Finds rows limits name given
-  finds s d limits name given e a f b g h = record { steps = rw e at a; derives = rw f at b; name_is = sym g; given_are = sym h }
+      → p ≡ first_of (codes "split") rows → IsFlag p limits.split → Some name ≡ first_of (codes "command") rows → Some given ≡ all_of (codes "words") rows → Finds rows limits name given
+  finds s d p limits name given e a f b i k g h = record { steps = rw e at a; derives = rw f at b; split = rw i at k; name_is = sym g; given_are = sym h }

@@ -12,7 +12,7 @@ use Rattle.circ_files.specs.Ending.{ending}
 use Rattle.circ_reports.specs.Expand.{IsExpanded, RefusesExpand}
 use Rattle.circ_reports.specs.Library.{RefusesLibrary}
 use Rattle.circ_top.specs.Prove.{IsSearched}
-use Rattle.circ_top.specs.Scripted.{RefusesScript}
+use Rattle.circ_top.specs.Scripted.{to_prove, to_differ, RefusesScript}
 use Rattle.circ_top.specs.Trace.{IsTraced}
 use Rattle.circ_reports.specs.Reduce.{IsReduced, RefusesReduce}
 use Rattle.circ_top.specs.Regex.{IsEqualitySearched, RefusesRegex}
@@ -56,13 +56,13 @@ Comes c s text stored before = (s ≡ status.Ok) × Succeeds c text stored befor
 -- why a command's work is refused
 abbrev pub RefusesCommand : Command → (before after : ShelfState) → Status → Type 0
 RefusesCommand (Check report theory proof) before after s = RefusesCheck theory proof before after s
-RefusesCommand (Prove limits theory script proof) before after s = RefusesScript theory script before after s
+RefusesCommand (Prove limits theory script proof) before after s = RefusesScript to_prove theory script before after s
 RefusesCommand (Show theory) before after s = IsTheoryFault theory before after s
 RefusesCommand (Contexts budget theory) before after s = IsTheoryFault theory before after s
 RefusesCommand (Reduce budget theory script) before after s = RefusesReduce budget theory script before after s
 RefusesCommand (Same first second) before after s = RefusesSame first second before after s
-RefusesCommand (Differ limits theory script) before after s = RefusesScript theory script before after s
-RefusesCommand (Trace limits theory script) before after s = RefusesScript theory script before after s
+RefusesCommand (Differ limits theory script) before after s = RefusesScript to_differ theory script before after s
+RefusesCommand (Trace limits theory script) before after s = RefusesScript to_prove theory script before after s
 RefusesCommand (Regex limits left right proof) before after s = RefusesRegex left right s
 RefusesCommand (Upgrade theory proof new) before after s = RefusesUpgrade theory proof before after s
 RefusesCommand (Expand theory proof goal derivatives) before after s = RefusesExpand theory proof goal derivatives before after s

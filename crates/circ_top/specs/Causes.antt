@@ -17,7 +17,8 @@ use Rattle.circ_top.specs.Trace.{IsTraced}
 use Rattle.circ_reports.specs.Same.{AtAutomaton}
 use Rattle.circ_files.specs.Ending.{Stored}
 use Rattle.circ_top.specs.Storing.{HoldsAfter}
-use Rattle.circ_files.specs.TheoryFile.{TakesTheory, TakesPlainTheory}
+use Rattle.circ_files.specs.TheoryFile.{TakesTheory}
+use Rattle.circ_top.specs.Scripted.{to_prove, to_differ, TakesFor}
 use Rattle.circ_files.specs.declared.status.Status.{Status}
 use Rattle.circ_files.specs.declared.status.Status.TheVariants as status
 
@@ -62,13 +63,13 @@ AtEither takes theory second P = P 1 theory ⊎ ((th : Theory) × (takes th × P
 -- A file of the command has the fact.
 abbrev pub AtFile : ShelfState → Command → (ℕ → List ℕ → Type 0) → Type 0
 AtFile before (Check report theory proof) P = AtEither (λ th. TakesTheory theory th before) theory proof P
-AtFile before (Prove limits theory script proof) P = AtEither (λ th. TakesPlainTheory theory th before) theory script P
+AtFile before (Prove limits theory script proof) P = AtEither (λ th. TakesFor to_prove theory th before) theory script P
 AtFile before (Show theory) P = P 1 theory
 AtFile before (Contexts budget theory) P = P 1 theory
 AtFile before (Reduce budget theory script) P = AtEither (λ th. TakesTheory theory th before) theory script P
 AtFile before (Same first second) P = AtAutomaton before first second P
-AtFile before (Differ limits theory script) P = AtEither (λ th. TakesPlainTheory theory th before) theory script P
-AtFile before (Trace limits theory script) P = AtEither (λ th. TakesPlainTheory theory th before) theory script P
+AtFile before (Differ limits theory script) P = AtEither (λ th. TakesFor to_differ theory th before) theory script P
+AtFile before (Trace limits theory script) P = AtEither (λ th. TakesFor to_prove theory th before) theory script P
 AtFile before (Regex limits left right proof) P = ⊥
 AtFile before (Upgrade theory proof new) P = AtEither (λ th. TakesTheory theory th before) theory proof P
 AtFile before (Expand theory proof goal derivatives) P = AtEither (λ th. TakesTheory theory th before) theory proof P

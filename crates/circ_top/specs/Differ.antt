@@ -19,7 +19,7 @@ use Rattle.circ_found.specs.Differing.{differs_text, decision_ending, DifferEnds
 use Rattle.circ_files.specs.Ending.{Stored, Ending}
 use Rattle.circ_top.specs.Command.{Differ}
 use Rattle.circ_top.specs.Delivery.{Prints}
-use Rattle.circ_top.specs.Scripted.{GoalsEnd, ScriptOutcome, IsDoneOn}
+use Rattle.circ_top.specs.Scripted.{GoalsEnd, to_differ, ScriptOutcome, IsDoneOn}
 use Rattle.circ_turn.specs.declared.search.Limits.{Limits}
 
 -- how looking for a difference ends, within limits: by what the plain refutation of the goals in order finds
@@ -29,12 +29,12 @@ DifferenceSought limits th blocks e =
 
 abbrev pub DifferOutcome : Held → Limits → (theory script : List ℕ) → Status → (text : List ℕ) → (stored : Option Stored) → Type 0
 DifferOutcome held limits theory script s text stored =
-    ScriptOutcome held (Differ limits theory script) theory script (DifferenceSought limits) s text stored
+    ScriptOutcome to_differ held (Differ limits theory script) theory script (DifferenceSought limits) s text stored
 
 -- The two files read, looking for a difference of the script's goals ends so, and what is found is right.
 abbrev pub IsDifferenceSought : Limits → (theory script : List ℕ) → Ending → (before : ShelfState) → Type 0
 IsDifferenceSought limits theory script e before =
-    IsDoneOn theory script (λ th blocks end. DifferEnds th limits.steps limits.derives blocks end) e before
+    IsDoneOn to_differ theory script (λ th blocks end. DifferEnds th limits.steps limits.derives blocks end) e before
 
 -- Status 11 of `differ`: the two files read, and the experiment that is printed, of n entries, fits goal number `goal` of the script, counted from 1, and
 -- leads its sides to two different constants of one case list, by derivations from the theory. The outside did not fail.
@@ -42,7 +42,7 @@ pub record TellsApart (theory script : List ℕ) (n : ℕ) (before after : Shelf
   pub th : Theory
   pub sc : Script
   pub takes_theory : TakesPlainTheory theory th before
-  pub takes_script : TakesScript script th job.Prove sc before
+  pub takes_script : TakesScript script th job.Differ sc before
   pub goal : ℕ
   pub told_apart : Goal
   pub goal_is : slice_get (goals_in sc.blocks) (goal - 1) ≡ Some told_apart

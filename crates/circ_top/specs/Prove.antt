@@ -10,27 +10,29 @@ use Rattle.circ_script.specs.Script.{Script}
 use Rattle.circ_script.specs.declared.job.Job.TheVariants as job
 use Rattle.circ_files.specs.Files.{Held}
 use Rattle.circ_files.specs.ScriptFile.{TakesScript}
-use Rattle.circ_files.specs.TheoryFile.{TakesPlainTheory}
+use Rattle.circ_files.specs.TheoryFile.{TakesTheory}
 use Rattle.circ_files.specs.declared.status.Status.{Status}
 use Rattle.circ_files.specs.Ending.{Stored, Ending}
 use Rattle.circ_found.specs.Answering.{proved_text, SearchEnds}
 use Rattle.circ_top.specs.Command.{Prove}
-use Rattle.circ_search.specs.Plain.{plain_limits}
+use Rattle.circ_search.specs.Plain.{manner_with}
+use Rattle.circ_conditional_search.specs.ConditionalSearch.{CanAllBeSearched}
 use Rattle.circ_top.specs.Delivery.{Prints}
-use Rattle.circ_top.specs.Scripted.{GoalsEnd, ScriptOutcome, IsDoneOn}
+use Rattle.circ_top.specs.Scripted.{GoalsEnd, to_prove, ScriptOutcome, IsDoneOn}
 use Rattle.circ_turn.specs.declared.search.Limits.{Limits}
 
 -- how the search for a proof of the goals ends, within limits, where the proof is stored under a name
 abbrev pub ProofSought : (limits : Limits) → (name : List ℕ) → GoalsEnd
-ProofSought limits name th blocks e = SearchEnds th (plain_limits limits) name blocks e
+ProofSought limits name th blocks e = SearchEnds th (manner_with limits) name blocks e
 
 abbrev pub ProveOutcome : Held → Limits → (theory script name : List ℕ) → Status → (text : List ℕ) → (stored : Option Stored) → Type 0
 ProveOutcome held limits theory script name s text stored =
-    ScriptOutcome held (Prove limits theory script name) theory script (ProofSought limits name) s text stored
+    ScriptOutcome to_prove held (Prove limits theory script name) theory script (ProofSought limits name) s text stored
 
 -- The two files read, the script's goals can be searched, and the search ends so.
-abbrev pub IsSearched : Limits → (theory script name : List ℕ) → Ending → (before : ShelfState) → Type 0
-IsSearched limits theory script name e before = IsDoneOn theory script (ProofSought limits name) e before
+pub record IsSearched (limits : Limits) (theory script name : List ℕ) (e : Ending) (before : ShelfState) : Type 0 where
+  pub done : IsDoneOn to_prove theory script (ProofSought limits name) e before
+  pub searchable : CanAllBeSearched done.th done.sc.blocks
 
 -- Status 0 of `prove`: the two files read, and the named file holds the text of an accepted proof of exactly the script's goals, where the shelf tells.
 -- Every other name holds what it held. The report of this was printed, and the outside did not fail.
@@ -38,7 +40,7 @@ pub record StoresProof (theory script name : List ℕ) (before after : ShelfStat
   pub th : Theory
   pub sc : Script
   pub p : Proof
-  pub takes_theory : TakesPlainTheory theory th before
+  pub takes_theory : TakesTheory theory th before
   pub takes_script : TakesScript script th job.Prove sc before
   pub proof_for : ProofFor th p
   pub accepted : Accepted th p

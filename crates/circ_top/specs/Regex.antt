@@ -12,14 +12,14 @@ use Rattle.circ_regex.specs.Member.{expression_term}
 use Rattle.circ_proof.specs.Accepted.{Accepted}
 use Rattle.circ_proof.specs.Proof.{Proof, ProofFor}
 use Rattle.circ_proof_text.specs.ProofText.{proof_text}
-use Rattle.circ_plain_search.specs.PlainSearch.{AreSearchable}
+use Rattle.circ_conditional_search.specs.ConditionalSearch.{CanAllBeSearched}
 use Rattle.circ_read.specs.declared.cause.Cause.TheVariants as cause
 use Rattle.circ_files.specs.Files.{Refusal}
 use Rattle.circ_files.specs.declared.status.Status.{Status}
 use Rattle.circ_files.specs.declared.status.Status.TheVariants as status
 use Rattle.circ_files.specs.Ending.{Stored, Ending, ending}
 use Rattle.circ_found.specs.Answering.{proved_text, SearchEnds}
-use Rattle.circ_search.specs.Plain.{plain_limits}
+use Rattle.circ_search.specs.Plain.{manner_with}
 use Rattle.circ_top.specs.Command.{Regex}
 use Rattle.circ_top.specs.Delivery.{Prints}
 use Rattle.circ_top.specs.Refusals.{refusal_text}
@@ -52,7 +52,7 @@ pub data RegexOutcome (limits : Limits) (left right name : List ℕ) : Status �
   no_right : (s : Status) (e : Expression) → IsTextOfRegex left e → RefusesWord 2 right s
       → RegexOutcome limits left right name s (refusal_text (Regex limits left right name) s) None
   both_read : (s : Status) (text : List ℕ) (stored : Option Stored) (e f : Expression) → IsTextOfRegex left e → IsTextOfRegex right f
-      → SearchEnds LANG (plain_limits limits) name (equality_goals e f) (ending s text stored) → RegexOutcome limits left right name s text stored
+      → SearchEnds LANG (manner_with limits) name (equality_goals e f) (ending s text stored) → RegexOutcome limits left right name s text stored
 
 -- The two words are expressions, the equality of their terms can be searched in LANG, and the search ends so.
 pub record IsEqualitySearched (limits : Limits) (left right name : List ℕ) (end : Ending) : Type 0 where
@@ -61,8 +61,8 @@ pub record IsEqualitySearched (limits : Limits) (left right name : List ℕ) (en
   pub left_is : IsTextOfRegex left e
   pub right_is : IsTextOfRegex right f
   pub well_formed : IsWellFormed LANG
-  pub searchable : AreSearchable LANG (equality_goals e f)
-  pub ends : SearchEnds LANG (plain_limits limits) name (equality_goals e f) end
+  pub searchable : CanAllBeSearched LANG (equality_goals e f)
+  pub ends : SearchEnds LANG (manner_with limits) name (equality_goals e f) end
 
 -- Why there is no search: the first word is no expression; or it is one, and the second is none; or memory ran out.
 pub data RefusesRegex (left right : List ℕ) : Status → Type 0 where

@@ -7,7 +7,7 @@ use Rattle.circ_files.specs.Files.{Held}
 use Rattle.circ_files.specs.Ending.{Stored, Ending}
 use Rattle.circ_files.specs.declared.status.Status.{Status}
 use Rattle.circ_top.specs.Command.{Trace}
-use Rattle.circ_top.specs.Scripted.{GoalsEnd, ScriptOutcome, IsDoneOn}
+use Rattle.circ_top.specs.Scripted.{GoalsEnd, to_prove, ScriptOutcome, IsDoneOn}
 use Rattle.circ_turn.specs.declared.search.Limits.{Limits}
 
 -- how the trace of the search for a proof of the goals ends, within limits
@@ -16,8 +16,8 @@ TraceSought limits th blocks e = TraceEnds th (plain_limits limits) blocks e
 
 abbrev pub TraceOutcome : Held → Limits → (theory script : List ℕ) → Status → (text : List ℕ) → (stored : Option Stored) → Type 0
 TraceOutcome held limits theory script s text stored =
-    ScriptOutcome held (Trace limits theory script) theory script (TraceSought limits) s text stored
+    ScriptOutcome to_prove held (Trace limits theory script) theory script (TraceSought limits) s text stored
 
--- The two files read, the script's goals can be searched, and the trace ends so.
+-- The two files read, and the trace ends so.
 abbrev pub IsTraced : Limits → (theory script : List ℕ) → Ending → (before : ShelfState) → Type 0
-IsTraced limits theory script e before = IsDoneOn theory script (TraceSought limits) e before
+IsTraced limits theory script e before = IsDoneOn to_prove theory script (TraceSought limits) e before

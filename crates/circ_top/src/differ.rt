@@ -4,10 +4,10 @@ ghost use Rattle.circ_outer.specs.Shelf.{ShelfFrame};
 ghost use Rattle.circ_files.specs.Quiet.{IsQuietCall};
 ghost use Rattle.circ_files.specs.Ending.{plain_ending};
 ghost use Rattle.circ_top.specs.Differ.{IsDifferenceSought};
-ghost use Rattle.circ_top.specs.Scripted.{RefusesScript};
+ghost use Rattle.circ_top.specs.Scripted.{to_differ, RefusesScript};
 
 use circ_files::{Ending, Status, take_plain_theory, take_script};
-use circ_found::{differ as look_for_difference, searchable};
+use circ_found::{differ as look_for_difference, plainly_searchable};
 use circ_outer::Shelf;
 use circ_script::Job;
 use circ_script::laws::scripts_are_fit;
@@ -26,7 +26,7 @@ pub(crate) fn differ<'a, S: Shelf>(
     ensures sought { IfOk result (λ e. IsDifferenceSought limits theory.now script.now
         (plain_ending e) (S.state shelf.old)) }
     ensures refused { IfErr result
-        (RefusesScript theory.now script.now (S.state shelf.old) (S.state shelf.new)) }
+        (RefusesScript to_differ theory.now script.now (S.state shelf.old) (S.state shelf.new)) }
     ensures quiet { IsQuietCall (S.state shelf.old) (S.state shelf.new) result }
     ensures frame { ShelfFrame (S.state shelf.old) (S.state shelf.new) }
 {
@@ -34,12 +34,12 @@ pub(crate) fn differ<'a, S: Shelf>(
         Ok(theory) => theory,
         Err(status) => return Err(status),
     };
-    let script = match take_script(alloc, shelf, script, &mut theory, Job::Prove) {
+    let script = match take_script(alloc, shelf, script, &mut theory, Job::Differ) {
         Ok(script) => script,
         Err(status) => return Err(status),
     };
     scripts_are_fit();
-    searchable(&theory, &script);
+    plainly_searchable(&theory, &script);
     let (steps, derives) = (limits.steps, limits.derives);
     match look_for_difference(alloc, &theory, script.blocks.as_slice(), steps, derives) {
         Ok(ending) => Ok(ending),

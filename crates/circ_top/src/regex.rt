@@ -6,8 +6,8 @@ ghost use Rattle.circ_regex.specs.Grammar.{IsTextOfRegex};
 ghost use Rattle.circ_regex.specs.Lang.{LANG};
 ghost use Rattle.circ_regex.specs.Matches.{plain_regex};
 ghost use Rattle.circ_regex.specs.Member.{expression_term};
-ghost use Rattle.circ_plain_search.specs.PlainSearch.{AreSearchable};
-ghost use Rattle.circ_search.specs.Plain.{plain_limits};
+ghost use Rattle.circ_conditional_search.specs.ConditionalSearch.{CanAllBeSearched};
+ghost use Rattle.circ_search.specs.Plain.{manner_with};
 ghost use Rattle.circ_found.specs.Answering.{SearchEnds};
 ghost use Rattle.circ_files.specs.Ending.{plain_ending};
 ghost use Rattle.circ_top.specs.Regex.{IsWordFault, equality_goals, IsEqualitySearched};
@@ -16,7 +16,7 @@ ghost use Rattle.circ_top.specs.Regex.{RefusesRegex};
 use circ_files::{Ending, Status};
 use circ_found::search;
 use circ_read::Cause;
-use circ_regex::laws::{lang_has_no_conditions, terms_are_sorted};
+use circ_regex::laws::terms_are_sorted;
 use circ_regex::{Regex, RegexFault, lang_theory, read_regex, term_of};
 use circ_search::Limits;
 use circ_term::Term;
@@ -83,9 +83,9 @@ fn equality<'a>(
     right: &Regex,
     name: &'a str,
 ) -> Result<Ending<'a>, AllocError>
-    ensures ends { IfOk result (λ e. SearchEnds LANG (plain_limits limits) name.now
+    ensures ends { IfOk result (λ e. SearchEnds LANG (manner_with limits) name.now
         (equality_goals (plain_regex left.now) (plain_regex right.now)) (plain_ending e)) }
-    ensures searchable { IfOk result (λ _. AreSearchable LANG
+    ensures searchable { IfOk result (λ _. CanAllBeSearched LANG
         (equality_goals (plain_regex left.now) (plain_regex right.now))) }
     ensures well_formed { IfOk result (λ _. IsWellFormed LANG) }
 {
@@ -99,10 +99,9 @@ fn equality<'a>(
 fn goals_of(alloc: Global, left: &Regex, right: &Regex) -> Result<Vec<Vec<Goal>>, AllocError>
     ensures goals { IfOk result (λ v. map (λ b. b.items) v.items ≡
         equality_goals (plain_regex left.now) (plain_regex right.now)) }
-    ensures searchable { IfOk result (λ _. AreSearchable LANG
+    ensures searchable { IfOk result (λ _. CanAllBeSearched LANG
         (equality_goals (plain_regex left.now) (plain_regex right.now))) }
 {
-    lang_has_no_conditions();
     terms_are_sorted();
     let left = term(alloc, left)?;
     let right = term(alloc, right)?;

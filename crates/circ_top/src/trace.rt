@@ -4,9 +4,9 @@ ghost use Rattle.circ_outer.specs.Shelf.{ShelfFrame};
 ghost use Rattle.circ_files.specs.Quiet.{IsQuietCall};
 ghost use Rattle.circ_files.specs.Ending.{plain_ending};
 ghost use Rattle.circ_top.specs.Trace.{IsTraced};
-ghost use Rattle.circ_top.specs.Scripted.{RefusesScript};
+ghost use Rattle.circ_top.specs.Scripted.{to_prove, RefusesScript};
 
-use circ_files::{Ending, Status, take_plain_theory, take_script};
+use circ_files::{Ending, Status, take_script, take_theory};
 use circ_found::searchable;
 use circ_outer::Shelf;
 use circ_script::Job;
@@ -26,11 +26,11 @@ pub(crate) fn trace<'a, S: Shelf>(
     ensures traced { IfOk result (λ e. IsTraced limits theory.now script.now
         (plain_ending e) (S.state shelf.old)) }
     ensures refused { IfErr result
-        (RefusesScript theory.now script.now (S.state shelf.old) (S.state shelf.new)) }
+        (RefusesScript to_prove theory.now script.now (S.state shelf.old) (S.state shelf.new)) }
     ensures quiet { IsQuietCall (S.state shelf.old) (S.state shelf.new) result }
     ensures frame { ShelfFrame (S.state shelf.old) (S.state shelf.new) }
 {
-    let mut theory = match take_plain_theory(alloc, shelf, theory) {
+    let mut theory = match take_theory(alloc, shelf, theory) {
         Ok(theory) => theory,
         Err(status) => return Err(status),
     };

@@ -5,14 +5,14 @@ ghost use Rattle.clap.specs.Faults.{fault_of};
 ghost use Rattle.clap.specs.Matches.{found_of};
 ghost use Rattle.clap.specs.Simple.{app_of, matches_of, new_app, with_rule};
 ghost use Rattle.clap.specs.Walk.{rule_of, rows_of};
-ghost use Rattle.circ_top.specs.Words.{steps_rule, derives_rule, command_rule, words_rule};
-ghost use Rattle.circ_top.specs.Words.{circ_app, IsBudget, IsNoBudget, IsNoNumber};
-ghost use Rattle.circ_top.specs.Words.{Finds, FindsNothing};
+ghost use Rattle.circ_top.specs.Words.{steps_rule, derives_rule, split_rule, command_rule};
+ghost use Rattle.circ_top.specs.Words.{words_rule, circ_app, IsBudget, IsNoBudget, IsNoNumber};
+ghost use Rattle.circ_top.specs.Words.{IsFlag, Finds, FindsNothing};
 
 use circ_found::{GREATEST_DERIVES, GREATEST_STEPS};
 use circ_search::Limits;
 use clap::error::ErrorKind;
-use clap::{Arg, ArgMatches, Command};
+use clap::{Arg, ArgAction, ArgMatches, Command};
 use itoa::Buffer;
 use std::alloc::{AllocError, Global};
 
@@ -22,7 +22,7 @@ const USUAL_STEPS: u64 = 100_000;
 /// The derivations that a search may make where the words do not say it.
 const USUAL_DERIVES: u64 = 256;
 
-/// What the words of a run say: the limits, the command's name, and the words that it takes.
+/// What the words of a run say: the limits with what the flag says, the command's name, and the words that it takes.
 #[derive(Clone, Copy)]
 pub(crate) struct Words<'m, 'a> {
     pub limits: Limits,
@@ -58,9 +58,14 @@ pub(crate) fn found<'m, 'a>(matches: &'m ArgMatches<'a>) -> Option<Words<'m, 'a>
 {
     let steps = budget(matches.get_str("steps"), USUAL_STEPS, GREATEST_STEPS)?;
     let derives = budget(matches.get_str("derives"), USUAL_DERIVES, GREATEST_DERIVES)?;
+    let split = is_set(matches.get_str("split"));
     let name = matches.get_str("command")?;
     let given = matches.get_strs("words")?;
-    let limits = Limits { steps, derives };
+    let limits = Limits {
+        steps,
+        derives,
+        split,
+    };
     Some(Words {
         limits,
         name,
@@ -77,6 +82,16 @@ fn budget(value: Option<&str>, usual: u64, most: u64) -> Option<u64>
     match value {
         None => Some(usual),
         Some(text) => number(text, most),
+    }
+}
+
+/// Whether a flag with this value is set.
+fn is_set(value: Option<&str>) -> bool
+    ensures { IsFlag (option_map (λ s. s.now) value.entry) result }
+{
+    match value {
+        None => false,
+        Some(text) => is_word(text, b"true"),
     }
 }
 
@@ -113,13 +128,17 @@ fn definition<'a>(alloc: Global) -> Result<Command<'a>, AllocError>
     command.arg(command_arg(alloc))?.arg(words_arg(alloc))
 }
 
-/// The options alone.
+/// The options and the flag alone.
 fn with_options<'a>(alloc: Global) -> Result<Command<'a>, AllocError>
     ensures { IfOk result (λ c. app_of c ≡
-        with_rule (with_rule (new_app (codes "circ")) steps_rule) derives_rule) }
+        with_rule (with_rule (with_rule (new_app (codes "circ")) steps_rule) derives_rule)
+        split_rule) }
 {
     let command = Command::new(alloc, "circ");
-    command.arg(steps_arg(alloc))?.arg(derives_arg(alloc))
+    command
+        .arg(steps_arg(alloc))?
+        .arg(derives_arg(alloc))?
+        .arg(split_arg(alloc))
 }
 
 fn steps_arg<'a>(alloc: Global) -> Arg<'a>
@@ -134,6 +153,15 @@ fn derives_arg<'a>(alloc: Global) -> Arg<'a>
     ensures local { result.global ≡ false }
 {
     Arg::new(alloc, "derives").long("derives")
+}
+
+fn split_arg<'a>(alloc: Global) -> Arg<'a>
+    ensures rule { rule_of result ≡ split_rule }
+    ensures local { result.global ≡ false }
+{
+    Arg::new(alloc, "split")
+        .long("split")
+        .action(ArgAction::SetTrue)
 }
 
 fn command_arg<'a>(alloc: Global) -> Arg<'a>

@@ -1,21 +1,26 @@
--- The account of a turn of the plain search: the sides of the goal in hand in normal form, and what the turn does with them.
+-- The account of a turn of the search: the sides of the goal in hand in normal form, and what the turn does with them.
 use Rattle.std.specs.Prelude.{ℕ, List, [], ◌∷◌, ◌++◌, ◌==◌, if◌then◌else◌, length, map, Option, Some, None, Result, Ok, Err}
 use Rattle.circ_term.specs.Tree.{Tree}
-use Rattle.circ_theory.specs.Theory.{Theory}
+use Rattle.circ_theory.specs.Theory.{Theory, Pair, goal}
 use Rattle.circ_theory.specs.declared.parts.Goal.{Goal}
 use Rattle.circ_special.specs.declared.place.Place.{Place}
+use Rattle.circ_conditional_norm.specs.Work.{Work, Made, Out, Past}
 use Rattle.circ_plain_search.specs.BlockRules.{block_rules}
-use Rattle.circ_plain_search.specs.Joining.{Stop, HypothesisUse, joined}
-use Rattle.circ_plain_search.specs.Search.{Standing, Sides, normal_sides, pass_uses}
+use Rattle.circ_plain_search.specs.Joining.{Stop, HypothesisUse}
+use Rattle.circ_plain_search.specs.Search.{Standing, Sides}
+use Rattle.circ_conditional_search.specs.Joining.{joined_trying}
+use Rattle.circ_conditional_search.specs.Search.{condition_normaliser, normal_sides_trying, swept_sides_trying}
 use Rattle.circ_trace.specs.declared.account.Account.{Account as TheAccount}
 use Rattle.circ_trace.specs.declared.account.Deed.{Deed as TheDeed}
 use Rattle.circ_trace.specs.declared.account.Deed.TheVariants as deed
 
--- What a turn does with sides in normal form: they join by these hypotheses; or a lemma pass uses these; or neither, and the goal is open.
+-- What a turn does with sides in normal form: they join by these hypotheses; or a lemma pass uses these; or neither, and the goal is open. Or Join or the pass
+-- ends the search.
 pub data Deed : Type 0 where
   Joins : (hypotheses : List ℕ) → Deed
   Passes : (hypotheses : List ℕ) → Deed
   Opens : Deed
+  Ends : Deed
 
 pub record Account : Type 0 where
   pub left : Tree
@@ -28,24 +33,36 @@ account_with s t d = record { left = s; right = t; deed = d }
 abbrev pub numbers_of : List HypothesisUse → List ℕ
 numbers_of us = map (λ u. u.number) us
 
--- by what Join finds, and else by the hypotheses that a lemma pass uses
-abbrev pub deed_by : (join : Option (List HypothesisUse)) → (pass : List ℕ) → Deed
-deed_by (Some us) ns = Joins (numbers_of us)
-deed_by None ns = if length ns == 0 then Opens else Passes ns
+-- by what work comes to, and what it leaves of the budget; where it comes to nothing the search ends
+abbrev pub deed_by : {A : Type 0} → Work A → (A → (budget : ℕ) → Deed) → Deed
+deed_by (Made a k) f = f a k
+deed_by Out f = Ends
+deed_by (Past l k) f = Ends
 
-abbrev pub deed_on : Theory → List Place → Standing → (left right : Tree) → Deed
-deed_on th G st s t =
-    deed_by (joined G st.hypotheses [] s t) (numbers_of (pass_uses th G st.earlier s) ++ numbers_of (pass_uses th G st.earlier t))
+-- by the hypotheses that a lemma pass uses
+abbrev pub passes_by : List ℕ → Deed
+passes_by ns = if length ns == 0 then Opens else Passes ns
+
+-- by whether the sides join, and else by a lemma pass, the left side first
+abbrev pub join_deed : Theory → List Place → (earlier : List Goal) → Goal → (join : Option (List HypothesisUse)) → (budget : ℕ) → Deed
+join_deed th G E g (Some us) k = Joins (numbers_of us)
+join_deed th G E g None k = deed_by (swept_sides_trying th G E g k) (λ w l. passes_by (numbers_of w.0.uses ++ numbers_of w.1.uses))
+
+-- of a goal whose sides are in normal form
+abbrev pub deed_on : Theory → List Place → Standing → Goal → (budget : ℕ) → Deed
+deed_on th G st g k =
+    deed_by (joined_trying (condition_normaliser th st.earlier g.conds) G st.hypotheses [] g.left g.right k) (join_deed th G st.earlier g)
 
 -- There is none where normalising ends the search.
-abbrev pub account_of : Theory → List Place → Standing → Result Sides Stop → Option Account
-account_of th G st (Err e) = None
-account_of th G st (Ok n) = Some (account_with n.left n.right (deed_on th G st n.left n.right))
+abbrev pub account_of : Theory → List Place → Standing → (conds : List Pair) → Result Sides Stop → Option Account
+account_of th G st A (Err e) = None
+account_of th G st A (Ok n) = Some (account_with n.left n.right (deed_on th G st (goal A n.left n.right) n.budget))
 
 -- There is none where no goal is left.
 abbrev pub account_at : Theory → List Place → Standing → (queue : List Goal) → Option Account
 account_at th G st [] = None
-account_at th G st (g ∷ rest) = account_of th G st (normal_sides th (block_rules th st.earlier) [] g.left g.right st.budget)
+account_at th G st (g ∷ rest) =
+    account_of th G st g.conds (normal_sides_trying th (block_rules th st.earlier) g.conds g.left g.right st.budget)
 
 abbrev pub account : Theory → List Place → Standing → Option Account
 account th G st = account_at th G st st.queue
@@ -56,6 +73,7 @@ abbrev pub plain_deed : TheDeed → Deed
 plain_deed (deed.Joins hypotheses) = Joins hypotheses.items
 plain_deed (deed.Passes hypotheses) = Passes hypotheses.items
 plain_deed deed.Opens = Opens
+plain_deed deed.Ends = Ends
 
 abbrev pub plain_account : TheAccount → Account
 plain_account a = account_with a.left a.right (plain_deed a.deed)

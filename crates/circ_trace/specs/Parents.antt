@@ -6,7 +6,7 @@ use Rattle.circ_theory.specs.Theory.{Theory, Derivative}
 use Rattle.circ_theory.specs.Observing.{is_hidden}
 use Rattle.circ_plain_search.specs.Search.{Standing}
 use Rattle.circ_trace.specs.declared.parent.Parent.{Parent}
-use Rattle.circ_trace.specs.Account.{Account, Deed, Joins, Passes, Opens}
+use Rattle.circ_trace.specs.Account.{Account, Deed, Joins, Passes, Opens, Ends}
 
 -- the goal of this number, by the derivative of this number
 abbrev pub parent : (goal derivative : ℕ) → Parent
@@ -22,6 +22,7 @@ abbrev pub derives : Theory → (sort : ℕ) → Deed → Bool
 derives th s (Joins ns) = false
 derives th s (Passes ns) = false
 derives th s Opens = is_hidden th s
+derives th s Ends = false
 
 -- The parents of the goals that the block has derived, in order, when goal n has its turn. After a block's last goal the next block begins.
 abbrev pub parents_after : Theory → List Parent → (n : ℕ) → Option Account → List Parent

@@ -1,13 +1,15 @@
--- What `trace` answers: the lines of each turn of the plain search, and then what `prove` would answer.
-use Rattle.std.specs.Prelude.{◌≡◌, ◌+◌, ℕ, List, [], ◌∷◌, ◌++◌, map, None, Ok, Err}
+-- What `trace` answers: the lines of each turn of the search that splits no hidden goal, and then what `prove` would answer.
+use Rattle.std.specs.Prelude.{◌≡◌, ◌+◌, ℕ, false, List, [], ◌∷◌, ◌++◌, map, None, Ok, Err}
 use Rattle.circ_theory.specs.Theory.{Theory}
 use Rattle.circ_theory.specs.declared.parts.Goal.{Goal}
 use Rattle.circ_special.specs.declared.place.Place.{Place}
 use Rattle.circ_rewrite.specs.Links.{link_of}
 use Rattle.circ_rewrite.specs.Replacement.{Traced}
 use Rattle.circ_plain_search.specs.Greatest.{GreatestSpecialSet}
-use Rattle.circ_plain_search.specs.Numbering.{special, found_of}
-use Rattle.circ_plain_search.specs.Search.{Limits, Standing, Ending as SearchEnding, turn, start}
+use Rattle.circ_plain_search.specs.Numbering.{special}
+use Rattle.circ_plain_search.specs.Search.{Limits, Standing, Ending as SearchEnding, start}
+use Rattle.circ_conditional_search.specs.Search.{Manner, turn_trying}
+use Rattle.circ_conditional_search.specs.Versions.{versioned_found}
 use Rattle.circ_found.specs.Answering.{found_ending}
 use Rattle.circ_files.specs.Ending.{Ending, ending}
 use Rattle.circ_trace.specs.Account.{account}
@@ -16,16 +18,20 @@ use Rattle.circ_trace.specs.TurnText.{turn_text}
 use Rattle.circ_trace.specs.declared.parent.Parent.{Parent}
 
 -- From here the search has its turns in these standings, of which this is the first, and ends so.
-pub data Turns (th : Theory) (G : List Place) (l : Limits) : Standing → List Standing → SearchEnding → Type 0 where
-  ends : (st : Standing) (e : SearchEnding) → turn th G l st ≡ Err e → Turns th G l st (st ∷ []) e
-  goes : (st next : Standing) (sts : List Standing) (e : SearchEnding) → turn th G l st ≡ Ok next → Turns th G l next sts e
-      → Turns th G l st (st ∷ sts) e
+pub data Turns (th : Theory) (G : List Place) (m : Manner) : Standing → List Standing → SearchEnding → Type 0 where
+  ends : (st : Standing) (e : SearchEnding) → turn_trying th G m st ≡ Err e → Turns th G m st (st ∷ []) e
+  goes : (st next : Standing) (sts : List Standing) (e : SearchEnding) → turn_trying th G m st ≡ Ok next → Turns th G m next sts e
+      → Turns th G m st (st ∷ sts) e
 
 -- The lines of the turns in these standings. In the block in which they begin, goals were derived that have these parents.
 abbrev pub turns_text : Theory → List Place → List Parent → List Standing → List ℕ
 turns_text th G ps [] = []
 turns_text th G ps (st ∷ sts) =
     turn_text th ps st (account th G st) ++ turns_text th G (parents_after th ps (st.taken + 1) (account th G st)) sts
+
+-- a search within these limits that splits no hidden goal
+abbrev pub plainly : Limits → Manner
+plainly l = record { limits = l; split = false }
 
 -- these lines before what is answered, and nothing is stored
 abbrev pub after_lines : (lines : List ℕ) → Ending → Ending
@@ -38,6 +44,6 @@ pub record TraceEnds (th : Theory) (limits : Limits) (blocks : List (List Goal))
   pub greatest : GreatestSpecialSet th limits.steps places traces
   pub standings : List Standing
   pub search_ending : SearchEnding
-  pub turns : Turns th places limits (start limits blocks) standings search_ending
+  pub turns : Turns th places (plainly limits) (start limits blocks) standings search_ending
   pub is : after_lines (turns_text th places [] standings)
-      (found_ending th.signature [] (found_of (special places (map (map link_of) traces)) search_ending)) ≡ e
+      (found_ending th.signature [] (versioned_found (special places (map (map link_of) traces)) search_ending)) ≡ e

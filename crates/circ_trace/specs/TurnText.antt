@@ -7,10 +7,10 @@ use Rattle.circ_theory.specs.Signature.{Signature}
 use Rattle.circ_theory.specs.Theory.{Theory}
 use Rattle.circ_theory.specs.Observing.{is_hidden}
 use Rattle.circ_theory.specs.declared.parts.Goal.{Goal}
-use Rattle.circ_mixfix.specs.Printing.{text_of_term}
+use Rattle.circ_mixfix.specs.Printing.{text_of_term, text_of_goal}
 use Rattle.circ_plain_search.specs.Joining.{first_open}
 use Rattle.circ_plain_search.specs.Search.{Standing}
-use Rattle.circ_trace.specs.Account.{Account, Deed, Joins, Passes, Opens}
+use Rattle.circ_trace.specs.Account.{Account, Deed, Joins, Passes, Opens, Ends}
 use Rattle.circ_trace.specs.Parents.{parent_of}
 use Rattle.circ_trace.specs.declared.parent.Parent.{Parent}
 
@@ -18,8 +18,12 @@ use Rattle.circ_trace.specs.declared.parent.Parent.{Parent}
 abbrev pub shown : Signature → Tree → List ℕ
 shown sig t = if nat_lt 1000 (size_of t) then codes "(" ++ decimal (size_of t) ++ codes " nodes)" else text_of_term sig false t
 
+abbrev pub shown_sides : Signature → (left right : Tree) → List ℕ
+shown_sides sig s t = shown sig s ++ codes " = " ++ shown sig t
+
+-- a goal with conditions is written out
 abbrev pub shown_goal : Signature → Goal → List ℕ
-shown_goal sig g = shown sig g.left ++ codes " = " ++ shown sig g.right
+shown_goal sig g = if nat_lt 0 (length g.conds) then text_of_goal sig g else shown_sides sig g.left g.right
 
 abbrev pub shown_side : (label : List ℕ) → Signature → Tree → List ℕ
 shown_side label sig t = label ++ shown sig t ++ codes "\n"
@@ -55,34 +59,36 @@ abbrev pub further_hypothesis : ℕ → List ℕ
 further_hypothesis n = codes ", " ++ hypothesis_text (n + 1)
 
 -- the hypotheses that are used, or this where none is
-abbrev pub uses_text : (none some : List ℕ) → List ℕ → List ℕ
-uses_text none some [] = none
-uses_text none some (n ∷ ns) = some ++ hypothesis_text (n + 1) ++ flat_map further_hypothesis ns
+abbrev pub uses_line : (none some : List ℕ) → List ℕ → List ℕ
+uses_line none some [] = none ++ codes "\n"
+uses_line none some (n ∷ ns) = some ++ hypothesis_text (n + 1) ++ flat_map further_hypothesis ns ++ codes "\n"
 
-abbrev pub split_text : Signature → Option Tree → List ℕ
-split_text sig None = codes "no term to split on"
-split_text sig (Some u) = codes "split on " ++ shown sig u
+abbrev pub split_line : Signature → Option Tree → List ℕ
+split_line sig None = codes "no term to split on\n"
+split_line sig (Some u) = codes "split on " ++ shown sig u ++ codes "\n"
 
 -- the next hypothesis
-abbrev pub derived_text : Standing → List ℕ
-derived_text st = codes "derive: " ++ hypothesis_text (length st.hypotheses + 1)
+abbrev pub derived_line : Standing → List ℕ
+derived_line st = codes "derive: " ++ hypothesis_text (length st.hypotheses + 1) ++ codes "\n"
 
 -- A hidden goal is derived, and so becomes a hypothesis. A visible one is split.
-abbrev pub opening_text : Theory → Standing → (left right : Tree) → List ℕ
-opening_text th st s t =
-    if is_hidden th (sort_of s) then derived_text st else split_text th.signature (option_or (first_open th s) (first_open th t))
+abbrev pub opening_line : Theory → Standing → (left right : Tree) → List ℕ
+opening_line th st s t =
+    if is_hidden th (sort_of s) then derived_line st else split_line th.signature (option_or (first_open th s) (first_open th t))
 
-abbrev pub deed_text : Theory → Standing → (left right : Tree) → Deed → List ℕ
-deed_text th st s t (Joins ns) = uses_text (codes "equal") (codes "joins by ") ns
-deed_text th st s t (Passes ns) = uses_text (codes "lemma pass") (codes "lemma pass by ") ns
-deed_text th st s t Opens = opening_text th st s t
+-- none where Join or the lemma pass ends the search
+abbrev pub deed_line : Theory → Standing → (left right : Tree) → Deed → List ℕ
+deed_line th st s t (Joins ns) = uses_line (codes "equal") (codes "joins by ") ns
+deed_line th st s t (Passes ns) = uses_line (codes "lemma pass") (codes "lemma pass by ") ns
+deed_line th st s t Opens = opening_line th st s t
+deed_line th st s t Ends = []
 
 -- nothing where normalising ends the search
 abbrev pub account_text : Theory → Standing → Option Account → List ℕ
 account_text th st None = []
 account_text th st (Some a) =
     shown_side (codes "left: ") th.signature a.left ++ shown_side (codes "right: ") th.signature a.right
-    ++ deed_text th st a.left a.right a.deed ++ codes "\n"
+    ++ deed_line th st a.left a.right a.deed
 
 -- ---- where no goal is left
 

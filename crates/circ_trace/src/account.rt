@@ -19,4 +19,6 @@ pub enum Deed {
     Passes { hypotheses: Vec<u32> },
     /// Neither: the goal is derived, or split.
     Opens,
+    /// Neither is known, since the search ends while a condition is tried or a lemma is put in.
+    Ends,
 }

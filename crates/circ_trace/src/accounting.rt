@@ -1,22 +1,28 @@
 //! The account of the turn that comes next.
-ghost use Rattle.std.specs.Prelude.{◌≡◌, ◌≢◌, ◌++◌, [], Some, None, IfOk, OnOk};
+ghost use Rattle.std.specs.Prelude.{◌≡◌, ◌≢◌, ◌<◌, ◌^◌, ◌++◌, List, length, [], Some, None};
+ghost use Rattle.std.specs.Prelude.{IfOk, OnOk};
+ghost use Rattle.std.specs.Option.{option_map};
+ghost use Rattle.circ_theory.specs.declared.parts.Goal.{Goal as TheGoal};
+ghost use Rattle.circ_rewrite.specs.declared.fault.RewriteFault.TheVariants.{Memory as NoMemory};
 ghost use Rattle.circ_block.specs.Rules.{IsRulesOf};
-ghost use Rattle.circ_join.specs.Uses.{plain_uses, plain_lemma_uses};
+ghost use Rattle.circ_join.specs.Uses.{plain_uses};
 ghost use Rattle.circ_join.specs.declared.stop.Stop.TheVariants.{Memory};
 ghost use Rattle.circ_plain_search.specs.BlockRules.{block_rules, hidden_lemmas};
-ghost use Rattle.circ_plain_search.specs.Joining.{swept};
-ghost use Rattle.circ_plain_search.specs.Search.{normal_sides};
+ghost use Rattle.circ_conditional_search.specs.Coming.{IsSmallTrying};
+ghost use Rattle.circ_conditional_search.specs.Search.{normal_sides_trying};
+ghost use Rattle.circ_turn.specs.Ending.{reducing};
 ghost use Rattle.circ_turn.specs.Standing.{standing};
-ghost use Rattle.circ_trace.specs.Account.{account, account_of, account_with};
-ghost use Rattle.circ_trace.specs.Account.{deed_on, deed_by, numbers_of};
+ghost use Rattle.circ_trace.specs.Account.{account, account_of, account_with, numbers_of};
+ghost use Rattle.circ_trace.specs.Account.{deed_on, join_deed, passes_by, Ends};
 ghost use Rattle.circ_trace.specs.Account.{plain_account_if, plain_deed};
 
 use crate::account::{Account, Deed};
 use circ_block::BlockRules;
-use circ_join::{HypothesisUse, Joining, LemmaUse, Lemmas, Passing, Stop};
+use circ_join::{HypothesisUse, Joining, Lemmas, Passing, Stop};
+use circ_rewrite::RewriteFault;
 use circ_split::{Sides, normal_sides};
-use circ_term::Term;
 use circ_theory::Goal;
+use circ_tries::Reducer;
 use circ_turn::{Search, State};
 use std::alloc::{AllocError, Global};
 
@@ -28,6 +34,7 @@ pub(crate) fn account(
     state: &State<'_>,
 ) -> Result<Option<Account>, AllocError>
     requires rules { IsRulesOf search.now.theory.now state.now.hyps.earlier rules.old }
+    requires small { IsSmallTrying (standing state.now) }
     ensures exact { IfOk result (λ o. plain_account_if o
         ≡ account search.now.theory.now search.now.gamma.now (standing state.now)) }
     ensures rules { IsRulesOf search.now.theory.now state.now.hyps.earlier rules.new }
@@ -46,41 +53,64 @@ fn goal_account(
     goal: &Goal,
 ) -> Result<Option<Account>, AllocError>
     requires rules { IsRulesOf search.now.theory.now state.now.hyps.earlier rules.old }
+    requires few { length goal.now.conds < 2 ^ 32 }
     ensures exact { IfOk result (λ o. plain_account_if o ≡ account_of search.now.theory.now
-        search.now.gamma.now (standing state.now) (normal_sides search.now.theory.now
-        (block_rules search.now.theory.now state.now.hyps.earlier) [] goal.now.left goal.now.right
-        state.now.budget)) }
+        search.now.gamma.now (standing state.now) goal.now.conds
+        (normal_sides_trying search.now.theory.now
+        (block_rules search.now.theory.now state.now.hyps.earlier) goal.now.conds goal.now.left
+        goal.now.right state.now.budget)) }
     ensures rules { IsRulesOf search.now.theory.now state.now.hyps.earlier rules.new }
 {
+    rules.assume(search.alloc, goal.conds.as_slice())?;
     let mut budget = state.budget;
     match normal_sides(
         search.alloc,
-        &mut rules.plain,
+        &mut rules.goals.reducer,
         &goal.left,
         &goal.right,
         &mut budget,
     ) {
         Err(stop) => none_unless_memory(&stop),
-        Ok(sides) => sides_account(search, &rules.lemmas, state, sides),
+        Ok(sides) => {
+            let goal = with_sides(search.alloc, goal, sides)?;
+            normal_account(search, rules, state, goal, budget)
+        }
     }
 }
 
-// The same where these are the goal's sides in normal form.
-fn sides_account(
-    search: &Search<'_>,
-    lemmas: &Lemmas,
-    state: &State<'_>,
-    sides: Sides,
-) -> Result<Option<Account>, AllocError>
-    requires lemmas { lemmas.now ≡ hidden_lemmas search.now.theory.now 0 state.now.hyps.earlier }
-    ensures { IfOk result (λ o. plain_account_if o ≡ Some (account_with sides.left sides.right
-        (deed_on search.now.theory.now search.now.gamma.now (standing state.now) sides.left
-        sides.right))) }
+// The goal with these sides.
+fn with_sides(alloc: Global, goal: &Goal, sides: Sides) -> Result<Goal, AllocError>
+    ensures conds { IfOk result (λ g. g.conds ≡ goal.now.conds) }
+    ensures left { IfOk result (λ g. g.left ≡ sides.left) }
+    ensures right { IfOk result (λ g. g.right ≡ sides.right) }
 {
-    let deed = deed(search, lemmas, state, &sides.left, &sides.right)?;
-    Ok(Some(Account {
+    let conds = goal.conds.share(alloc)?;
+    Ok(Goal {
+        conds,
         left: sides.left,
         right: sides.right,
+    })
+}
+
+// The same where the goal's sides are in normal form. The rules have its conditions.
+fn normal_account(
+    search: &Search<'_>,
+    rules: &mut BlockRules<'_>,
+    state: &State<'_>,
+    goal: Goal,
+    budget: u64,
+) -> Result<Option<Account>, AllocError>
+    requires rules { IsRulesOf search.now.theory.now state.now.hyps.earlier rules.old }
+    requires conds { rules.old.goals.conds ≡ goal.conds }
+    ensures exact { IfOk result (λ o. plain_account_if o
+        ≡ Some (account_with goal.left goal.right (deed_on search.now.theory.now
+        search.now.gamma.now (standing state.now) goal budget))) }
+    ensures rules { IsRulesOf search.now.theory.now state.now.hyps.earlier rules.new }
+{
+    let deed = deed(search, rules, state, &goal, budget)?;
+    Ok(Some(Account {
+        left: goal.left,
+        right: goal.right,
         deed,
     }))
 }
@@ -96,73 +126,122 @@ fn none_unless_memory(stop: &Stop) -> Result<Option<Account>, AllocError>
     }
 }
 
-// What is done with sides in normal form.
+// What is done with a goal whose sides are in normal form.
 fn deed(
     search: &Search<'_>,
-    lemmas: &Lemmas,
+    rules: &mut BlockRules<'_>,
     state: &State<'_>,
-    left: &Term,
-    right: &Term,
+    goal: &Goal,
+    budget: u64,
 ) -> Result<Deed, AllocError>
-    requires lemmas { lemmas.now ≡ hidden_lemmas search.now.theory.now 0 state.now.hyps.earlier }
-    ensures { IfOk result (λ d. plain_deed d ≡ deed_on search.now.theory.now
-        search.now.gamma.now (standing state.now) left.now right.now) }
+    requires rules { IsRulesOf search.now.theory.now state.now.hyps.earlier rules.old }
+    requires conds { rules.old.goals.conds ≡ goal.now.conds }
+    ensures exact { IfOk result (λ d. plain_deed d ≡ deed_on search.now.theory.now
+        search.now.gamma.now (standing state.now) goal.now budget) }
+    ensures rules { IsRulesOf search.now.theory.now state.now.hyps.earlier rules.new }
 {
     let joining = Joining {
         alloc: search.alloc,
         gamma: search.gamma,
         hyps: &state.hyps,
     };
-    match joining.join(left, right)? {
-        Some(uses) => {
-            let hypotheses = use_numbers(search.alloc, uses.as_slice())?;
-            Ok(Deed::Joins { hypotheses })
-        }
-        None => pass_deed(search, lemmas, left, right),
+    let mut budget = budget;
+    let reducer = &mut rules.goals.reducer;
+    match joining.join(reducer, &goal.left, &goal.right, &mut budget) {
+        Err(fault) => ends_unless_memory(&fault),
+        Ok(joined) => joined_deed(search, reducer, &rules.lemmas, goal, joined, budget),
     }
 }
 
-// The same where the sides do not join.
+// The search ends unless memory ran out.
+fn ends_unless_memory(fault: &RewriteFault) -> Result<Deed, AllocError>
+    ensures ends { IfOk result (λ d. plain_deed d ≡ Ends) }
+    ensures stopped { OnOk result (fault.now ≢ NoMemory) }
+{
+    match fault {
+        RewriteFault::Memory => Err(AllocError),
+        _ => Ok(Deed::Ends),
+    }
+}
+
+// What is done where it is known whether the sides join.
+fn joined_deed(
+    search: &Search<'_>,
+    reducer: &mut Reducer<'_>,
+    lemmas: &Lemmas,
+    goal: &Goal,
+    joined: Option<Vec<HypothesisUse>>,
+    budget: u64,
+) -> Result<Deed, AllocError>
+    ensures exact { (E : List TheGoal)
+        → reducer.old ≡ reducing search.now.theory.now E goal.now.conds
+        → lemmas.now ≡ hidden_lemmas search.now.theory.now 0 E
+        → IfOk result (λ d. plain_deed d ≡ join_deed search.now.theory.now search.now.gamma.now E
+        goal.now (option_map (λ v. plain_uses v.items) joined) budget) }
+    ensures same { reducer.new ≡ reducer.old }
+{
+    match joined {
+        None => pass_deed(search, reducer, lemmas, goal, budget),
+        Some(uses) => {
+            let mut hypotheses = Vec::new(search.alloc);
+            push_numbers(&mut hypotheses, uses.as_slice())?;
+            Ok(Deed::Joins { hypotheses })
+        }
+    }
+}
+
+// What is done where they do not.
 fn pass_deed(
     search: &Search<'_>,
+    reducer: &mut Reducer<'_>,
     lemmas: &Lemmas,
-    left: &Term,
-    right: &Term,
+    goal: &Goal,
+    budget: u64,
 ) -> Result<Deed, AllocError>
-    ensures { IfOk result (λ d. plain_deed d ≡ deed_by None
-        (numbers_of (swept search.now.gamma.now lemmas.now [] left.now)
-        ++ numbers_of (swept search.now.gamma.now lemmas.now [] right.now))) }
+    ensures exact { (E : List TheGoal)
+        → reducer.old ≡ reducing search.now.theory.now E goal.now.conds
+        → lemmas.now ≡ hidden_lemmas search.now.theory.now 0 E
+        → IfOk result (λ d. plain_deed d ≡ join_deed search.now.theory.now search.now.gamma.now E
+        goal.now None budget) }
+    ensures same { reducer.new ≡ reducer.old }
 {
     let passing = Passing {
         alloc: search.alloc,
         gamma: search.gamma,
         lemmas,
     };
-    let mut hypotheses = Vec::new(search.alloc);
-    let uses = passing.pass(left)?;
-    push_numbers(&mut hypotheses, uses.as_slice())?;
-    let uses = passing.pass(right)?;
-    push_numbers(&mut hypotheses, uses.as_slice())?;
+    let mut budget = budget;
+    match passing.pass(reducer, &goal.left, &mut budget) {
+        Err(fault) => ends_unless_memory(&fault),
+        Ok(left) => match passing.pass(reducer, &goal.right, &mut budget) {
+            Err(fault) => ends_unless_memory(&fault),
+            Ok(right) => swept_deed(search.alloc, left.uses.as_slice(), right.uses.as_slice()),
+        },
+    }
+}
+
+// By what the lemma pass has used on the left side and on the right.
+fn swept_deed(
+    alloc: Global,
+    left: &[HypothesisUse],
+    right: &[HypothesisUse],
+) -> Result<Deed, AllocError>
+    ensures { IfOk result (λ d. plain_deed d ≡ passes_by (numbers_of (plain_uses left.now)
+        ++ numbers_of (plain_uses right.now))) }
+{
+    let mut hypotheses = Vec::new(alloc);
+    push_numbers(&mut hypotheses, left)?;
+    push_numbers(&mut hypotheses, right)?;
     if hypotheses.is_empty() {
         return Ok(Deed::Opens);
     }
     Ok(Deed::Passes { hypotheses })
 }
 
-fn use_numbers(alloc: Global, uses: &[HypothesisUse]) -> Result<Vec<u32>, AllocError>
-    ensures { IfOk result (λ v. v.items ≡ numbers_of (plain_uses uses.now)) }
-{
-    let mut numbers = Vec::with_capacity(alloc, uses.len())?;
-    for one in uses {
-        numbers.push(one.number)?;
-    }
-    Ok(numbers)
-}
-
-// Appends the numbers of the lemmas that are used.
-fn push_numbers(numbers: &mut Vec<u32>, uses: &[LemmaUse]) -> Result<(), AllocError>
+// Appends the numbers of the hypotheses that are used.
+fn push_numbers(numbers: &mut Vec<u32>, uses: &[HypothesisUse]) -> Result<(), AllocError>
     ensures { OnOk result (numbers.new.items
-        ≡ numbers.old.items ++ numbers_of (plain_lemma_uses uses.now)) }
+        ≡ numbers.old.items ++ numbers_of (plain_uses uses.now)) }
 {
     for one in uses {
         numbers.push(one.number)?;

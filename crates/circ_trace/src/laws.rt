@@ -5,12 +5,13 @@ ghost use Rattle.circ_theory.specs.declared.parts.Goal.{Goal};
 ghost use Rattle.circ_plain_search.specs.Search.{Limits};
 ghost use Rattle.circ_found.specs.Answering.{SearchEnds};
 ghost use Rattle.circ_files.specs.Ending.{Ending};
-ghost use Rattle.circ_trace.specs.Tracing.{TraceEnds, after_lines};
+ghost use Rattle.circ_trace.specs.Tracing.{TraceEnds, plainly, after_lines};
 
-/// What is traced ends as the search for a proof of the same goals does, with lines before.
+/// What is traced ends as the search for a proof of the same goals does that splits no hidden goal,
+/// with lines before.
 pub fn traces_end_as_searches()
     ensures { (th : Theory) (limits : Limits) (blocks : List (List Goal)) (e : Ending) →
-        TraceEnds th limits blocks e → (f : Ending) × SearchEnds th limits [] blocks f
+        TraceEnds th limits blocks e → (f : Ending) × SearchEnds th (plainly limits) [] blocks f
         × (lines : List ℕ) × (e ≡ after_lines lines f) }
 {}
 

@@ -2,12 +2,12 @@
 ghost use Rattle.std.specs.Prelude.{◌≡◌, ◌+◌, ◌++◌, codes, flat_map, IfOk, OnOk};
 ghost use Rattle.std.specs.Option.{option_copied, option_or};
 ghost use Rattle.circ_plain_search.specs.Joining.{first_open};
-ghost use Rattle.circ_trace.specs.TurnText.{shown, shown_goal, shown_side, hypothesis_text};
-ghost use Rattle.circ_trace.specs.TurnText.{derivative_text, further_hypothesis, uses_text};
-ghost use Rattle.circ_trace.specs.TurnText.{hypothesis_lines, split_text};
+ghost use Rattle.circ_trace.specs.TurnText.{shown, shown_sides, shown_goal, shown_side};
+ghost use Rattle.circ_trace.specs.TurnText.{derivative_text, hypothesis_text, further_hypothesis};
+ghost use Rattle.circ_trace.specs.TurnText.{hypothesis_lines, uses_line, split_line};
 
 use circ_files::{push_counted, push_numbered};
-use circ_mixfix::{print, print_derivative};
+use circ_mixfix::{print, print_derivative, print_goal};
 use circ_split::first_open;
 use circ_term::Term;
 use circ_theory::{Goal, Theory};
@@ -30,7 +30,7 @@ fn put_term(
     print(alloc, theory, term, out)
 }
 
-/// Appends a goal's sides.
+/// Appends a goal.
 pub(crate) fn put_goal(
     alloc: Global,
     theory: &Theory,
@@ -40,9 +40,25 @@ pub(crate) fn put_goal(
     ensures { OnOk result (out.new.items ≡ out.old.items
         ++ shown_goal theory.now.signature goal.now) }
 {
-    put_term(alloc, theory, &goal.left, out)?;
+    if goal.conds.len() > 0 {
+        return print_goal(alloc, theory, goal, out);
+    }
+    put_sides(alloc, theory, &goal.left, &goal.right, out)
+}
+
+fn put_sides(
+    alloc: Global,
+    theory: &Theory,
+    left: &Term,
+    right: &Term,
+    out: &mut Vec<u8>,
+) -> Result<(), AllocError>
+    ensures { OnOk result (out.new.items ≡ out.old.items
+        ++ shown_sides theory.now.signature left.now right.now) }
+{
+    put_term(alloc, theory, left, out)?;
     out.extend_from_slice(b" = ")?;
-    put_term(alloc, theory, &goal.right, out)
+    put_term(alloc, theory, right, out)
 }
 
 /// Appends a line for a side.
@@ -76,7 +92,7 @@ pub(crate) fn put_derivative(
     }
 }
 
-/// Appends what a visible goal is split on.
+/// Appends a line for what a visible goal is split on.
 pub(crate) fn put_split(
     alloc: Global,
     theory: &Theory,
@@ -84,14 +100,15 @@ pub(crate) fn put_split(
     right: &Term,
     out: &mut Vec<u8>,
 ) -> Result<(), AllocError>
-    ensures { OnOk result (out.new.items ≡ out.old.items ++ split_text theory.now.signature
+    ensures { OnOk result (out.new.items ≡ out.old.items ++ split_line theory.now.signature
         (option_or (first_open theory.now left.now) (first_open theory.now right.now))) }
 {
     match open_of(theory, left, right) {
-        None => out.extend_from_slice(b"no term to split on"),
+        None => out.extend_from_slice(b"no term to split on\n"),
         Some(term) => {
             out.extend_from_slice(b"split on ")?;
-            put_term(alloc, theory, term, out)
+            put_term(alloc, theory, term, out)?;
+            out.extend_from_slice(b"\n")
         }
     }
 }
@@ -107,7 +124,7 @@ fn open_of<'a>(theory: &Theory, left: &'a Term, right: &'a Term) -> Option<&'a T
     }
 }
 
-/// Appends the hypotheses that are used, or other words where none is.
+/// Appends a line for the hypotheses that are used, or with other words where none is.
 pub(crate) fn put_uses(
     none: &[u8],
     some: &[u8],
@@ -115,14 +132,16 @@ pub(crate) fn put_uses(
     out: &mut Vec<u8>,
 ) -> Result<(), AllocError>
     ensures { OnOk result (out.new.items ≡ out.old.items
-        ++ uses_text none.now some.now numbers.now) }
+        ++ uses_line none.now some.now numbers.now) }
 {
     let Some((first, others)) = numbers.split_first() else {
-        return out.extend_from_slice(none);
+        out.extend_from_slice(none)?;
+        return out.extend_from_slice(b"\n");
     };
     out.extend_from_slice(some)?;
     put_name(*first, out)?;
-    put_others(others, out)
+    put_others(others, out)?;
+    out.extend_from_slice(b"\n")
 }
 
 // The name of the hypothesis of this number from 0.

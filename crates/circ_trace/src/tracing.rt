@@ -4,7 +4,7 @@ ghost use Rattle.circ_theory.specs.declared.parts.Goal.{Goal as TheGoal};
 ghost use Rattle.circ_contexts.specs.Candidates.{plain_lists};
 ghost use Rattle.circ_plain_search.specs.Greatest.{GreatestSpecialSet};
 ghost use Rattle.circ_plain_search.specs.Numbering.{Proved};
-ghost use Rattle.circ_plain_search.specs.PlainSearch.{AreSearchable};
+ghost use Rattle.circ_conditional_search.specs.ConditionalSearch.{CanAllBeSearched};
 ghost use Rattle.circ_plain_search.specs.Search.{start};
 ghost use Rattle.circ_proof.specs.Proof.{Proof as PlainProof, ProofFor};
 ghost use Rattle.circ_turn.specs.Standing.{standing, IsStart};
@@ -14,10 +14,10 @@ ghost use Rattle.circ_files.specs.Ending.{plain_ending};
 ghost use Rattle.circ_trace.specs.Tracing.{after_lines, TraceEnds};
 
 use crate::turns::run_turns;
+use circ_conditional_search::laws::proved_is_accepted;
 use circ_contexts::special_contexts;
 use circ_files::Ending;
 use circ_found::found_ending;
-use circ_plain_search::laws::proved_is_accepted;
 use circ_rewrite::Trace;
 use circ_search::{Found, Limits, found_at};
 use circ_special::Gamma;
@@ -33,7 +33,7 @@ pub fn trace<'a>(
     blocks: &[Vec<Goal>],
     limits: &Limits,
 ) -> Result<Ending<'a>, AllocError>
-    requires searchable { AreSearchable theory.now (map (λ b. b.items) blocks.now) }
+    requires searchable { CanAllBeSearched theory.now (map (λ b. b.items) blocks.now) }
     ensures { IfOk result (λ e. TraceEnds theory.now (plain_limits limits.now)
         (map (λ b. b.items) blocks.now) (plain_ending e)) }
 {
@@ -50,7 +50,7 @@ fn trace_with<'a>(
     gamma: Gamma,
     traces: Vec<Vec<Trace>>,
 ) -> Result<Ending<'a>, AllocError>
-    requires searchable { AreSearchable theory.now (map (λ b. b.items) blocks.now) }
+    requires searchable { CanAllBeSearched theory.now (map (λ b. b.items) blocks.now) }
     requires greatest { GreatestSpecialSet theory.now limits.now.steps gamma
         (plain_lists traces.items) }
     ensures { IfOk result (λ e. TraceEnds theory.now (plain_limits limits.now)
@@ -83,7 +83,11 @@ fn trace_from<'a>(
         alloc,
         theory,
         gamma: &gamma,
-        limits: *limits,
+        limits: Limits {
+            steps: limits.steps,
+            derives: limits.derives,
+            split: false,
+        },
     };
     let mut lines = Vec::new(alloc);
     let end = run_turns(&search, state, &mut lines);

@@ -3,9 +3,9 @@ ghost use Rattle.std.specs.Prelude.{◌≡◌, ◌≤◌, ◌++◌, length, OnOk
 ghost use Rattle.circ_turn.specs.Standing.{standing};
 ghost use Rattle.circ_trace.specs.Account.{plain_account, plain_account_if};
 ghost use Rattle.circ_trace.specs.TurnText.{block_text, parent_text, heading, goal_line};
-ghost use Rattle.circ_trace.specs.TurnText.{derived_text, opening_text, deed_text, account_text};
+ghost use Rattle.circ_trace.specs.TurnText.{derived_line, opening_line, deed_line, account_text};
 ghost use Rattle.circ_trace.specs.TurnText.{done_text, turn_text};
-ghost use Rattle.circ_plain_search.specs.Coming.{IsSmall};
+ghost use Rattle.circ_conditional_search.specs.Coming.{IsSmallTrying};
 
 use crate::account::{Account, Deed};
 use crate::lines::{put_derivative, put_goal, put_hypotheses, put_side, put_split, put_uses};
@@ -26,7 +26,7 @@ pub(crate) fn put_turn(
     account: &Option<Account>,
     out: &mut Vec<u8>,
 ) -> Result<(), AllocError>
-    requires { IsSmall (standing state.now) }
+    requires { IsSmallTrying (standing state.now) }
     ensures { OnOk result (out.new.items ≡ out.old.items ++ turn_text theory.now parents.now
         (standing state.now) (plain_account_if account.now)) }
 {
@@ -46,7 +46,7 @@ fn put_goal_turn(
     account: &Option<Account>,
     out: &mut Vec<u8>,
 ) -> Result<(), AllocError>
-    requires { IsSmall (standing state.now) }
+    requires { IsSmallTrying (standing state.now) }
     ensures { OnOk result (out.new.items ≡ out.old.items ++ (heading theory.now parents.now
         (standing state.now) ++ goal_line theory.now.signature goal.now
         ++ account_text theory.now (standing state.now) (plain_account_if account.now))) }
@@ -132,8 +132,7 @@ fn put_account(
     };
     put_side(alloc, theory, b"left: ", &account.left, out)?;
     put_side(alloc, theory, b"right: ", &account.right, out)?;
-    put_deed(alloc, theory, state, account, out)?;
-    out.extend_from_slice(b"\n")
+    put_deed(alloc, theory, state, account, out)
 }
 
 fn put_deed(
@@ -144,7 +143,7 @@ fn put_deed(
     out: &mut Vec<u8>,
 ) -> Result<(), AllocError>
     requires hyps { length state.now.hyps.all ≤ 100000 }
-    ensures { OnOk result (out.new.items ≡ out.old.items ++ deed_text theory.now
+    ensures { OnOk result (out.new.items ≡ out.old.items ++ deed_line theory.now
         (standing state.now) account.now.left account.now.right
         (plain_account account.now).deed) }
 {
@@ -154,6 +153,7 @@ fn put_deed(
             put_uses(b"lemma pass", b"lemma pass by ", hypotheses.as_slice(), out)
         }
         Deed::Opens => put_opening(alloc, theory, state, account, out),
+        Deed::Ends => Ok(()),
     }
 }
 
@@ -166,7 +166,7 @@ fn put_opening(
     out: &mut Vec<u8>,
 ) -> Result<(), AllocError>
     requires hyps { length state.now.hyps.all ≤ 100000 }
-    ensures { OnOk result (out.new.items ≡ out.old.items ++ opening_text theory.now
+    ensures { OnOk result (out.new.items ≡ out.old.items ++ opening_line theory.now
         (standing state.now) account.now.left account.now.right) }
 {
     if theory.is_hidden(account.left.sort()) {
@@ -178,13 +178,14 @@ fn put_opening(
 // The goal becomes the next hypothesis.
 fn put_derived(state: &State<'_>, out: &mut Vec<u8>) -> Result<(), AllocError>
     requires hyps { length state.now.hyps.all ≤ 100000 }
-    ensures { OnOk result (out.new.items ≡ out.old.items ++ derived_text (standing state.now)) }
+    ensures { OnOk result (out.new.items ≡ out.old.items ++ derived_line (standing state.now)) }
 {
     push_numbered(
         out,
         b"derive: hypothesis ",
         state.hyps.goals().len() as u64 + 1,
-    )
+    )?;
+    out.extend_from_slice(b"\n")
 }
 
 // The block is done. Where another comes its goals are hypotheses there.

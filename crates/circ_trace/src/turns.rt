@@ -1,8 +1,8 @@
 //! The turns of a search, each with its lines.
 ghost use Rattle.std.specs.Prelude.{◌≡◌, ◌+◌, ◌++◌, OnOk};
 ghost use Rattle.circ_block.specs.Rules.{IsRulesOf};
-ghost use Rattle.circ_plain_search.specs.Coming.{IsSmall};
-ghost use Rattle.circ_turn.specs.Standing.{standing, plain_limits, IsStart};
+ghost use Rattle.circ_conditional_search.specs.Coming.{IsSmallTrying};
+ghost use Rattle.circ_turn.specs.Standing.{standing, manner_of, IsStart};
 ghost use Rattle.circ_turn.specs.Ending.{RunEnds};
 ghost use Rattle.circ_trace.specs.Account.{account};
 ghost use Rattle.circ_trace.specs.Parents.{parents_after};
@@ -14,7 +14,7 @@ use crate::parent::Parent;
 use crate::parents::follow;
 use crate::turn_lines::put_turn;
 use circ_block::BlockRules;
-use circ_plain_search::laws::{normal_goals_are_ready, standings_are_small, turns_end};
+use circ_conditional_search::laws::{normal_goals_are_ready, standings_are_small, turns_end};
 use circ_turn::{End, Search, State};
 use std::alloc::AllocError;
 
@@ -24,10 +24,10 @@ pub(crate) fn run_turns<'a>(
     state: &mut State<'_>,
     out: &mut Vec<u8>,
 ) -> Result<(), End>
-    requires start { IsStart search.now.theory.now (plain_limits search.now.limits)
+    requires start { IsStart search.now.theory.now (manner_of search.now).limits
         (standing state.old) }
     ensures { RunEnds (IsTold search.now.theory.now search.now.gamma.now
-        (plain_limits search.now.limits) (standing state.old) out.old.items out.new.items)
+        (manner_of search.now) (standing state.old) out.old.items out.new.items)
         (standing state.new) result }
 {
     search.theory.known();
@@ -55,7 +55,7 @@ fn tell(
     out: &mut Vec<u8>,
 ) -> Result<(), AllocError>
     requires rules { IsRulesOf search.now.theory.now state.now.hyps.earlier rules.old }
-    requires small { IsSmall (standing state.now) }
+    requires small { IsSmallTrying (standing state.now) }
     ensures lines { OnOk result (out.new.items ≡ out.old.items ++ turn_text
         search.now.theory.now parents.old.items (standing state.now)
         (account search.now.theory.now search.now.gamma.now (standing state.now))) }

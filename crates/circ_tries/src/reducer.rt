@@ -1,6 +1,6 @@
 //! Normal forms by the same rules, one after the other.
-ghost use Rattle.std.specs.Prelude.{◌≡◌, ◌≤◌, ◌<◌, ◌^◌, [], length, map, IfOk, OnOk, OnErr};
-ghost use Rattle.std.specs.Prelude.{IsTrue};
+ghost use Rattle.std.specs.Prelude.{◌≡◌, ◌≤◌, ◌<◌, ◌+◌, ◌^◌, [], ◌∷◌, ◌++◌, length, map, IfOk};
+ghost use Rattle.std.specs.Prelude.{OnOk, OnErr, IsTrue};
 ghost use Rattle.std.specs.List.{AllByRecursion};
 ghost use Rattle.circ_theory.specs.Pairs.{plain_pair};
 ghost use Rattle.circ_rewrite.specs.Due.{IsRewriteRule, AreUnconditional};
@@ -10,7 +10,7 @@ ghost use Rattle.circ_memo.specs.Value.{AnswersValue};
 
 use crate::trying::Trying;
 use circ_memo::Memo;
-use circ_rewrite::{Normal, RewriteFault, Rule};
+use circ_rewrite::{Normal, RewriteFault, Rule, share_rules};
 use circ_term::Term;
 use circ_theory::{Pair, Theory};
 use std::alloc::{AllocError, Global};
@@ -20,6 +20,8 @@ use std::marker::Model;
 /// assumptions. Where no rule has conditions it is a [`Memo`].
 #[derive(Drop)]
 pub struct Reducer<'a> {
+    alloc: Global,
+    theory: &'a Theory,
     way: Way<'a>,
 }
 
@@ -37,11 +39,11 @@ impl<'a> Model for Reducer<'a> {
 
     ghost coded = { rewriting_code };
 
-    ghost use Rattle.circ_tries.specs.Value.{rewriting_by, IsRightWay};
+    ghost use Rattle.circ_tries.specs.Value.{rewriting_by, IsReducer};
 
     ghost view = { λ a. rewriting_by a.way };
 
-    ghost invariant = { λ a. IsRightWay a.way };
+    ghost invariant = { λ a. IsReducer a.theory.now a.way };
 }
 
 impl<'a> Reducer<'a> {
@@ -62,13 +64,77 @@ impl<'a> Reducer<'a> {
         if are_unconditional(rules.as_slice()) {
             let memo = Memo::new(alloc, theory, rules)?;
             return Ok(Reducer {
+                alloc,
+                theory,
                 way: Way::Plain(memo),
             });
         }
         let trying = Trying::new(alloc, theory, rules)?;
         Ok(Reducer {
+            alloc,
+            theory,
             way: Way::Tried(trying),
         })
+    }
+
+    /// Forgets what is known of terms, and the assumptions, and gives back what they took.
+    pub fn forget(&mut self)
+        ensures { self.new ≡ record self.old { assumptions = [] } }
+    {
+        match &mut self.way {
+            Way::Plain(memo) => memo.forget(),
+            Way::Tried(trying) => trying.forget(),
+        }
+    }
+
+    /// Puts a rule last, and forgets what is known of terms, and the assumptions. If it runs out of
+    /// memory the rules are as before.
+    pub fn push(&mut self, rule: Rule) -> Result<(), AllocError>
+        requires rewrite { IsRewriteRule rule }
+        requires few { length self.old.rules + 1 < 2 ^ 32 }
+        ensures added { OnOk result (self.new ≡ record self.old {
+          rules = self.old.rules ++ rule ∷ [];
+          assumptions = [];
+        }) }
+        ensures err { OnErr result (self.new ≡ record self.old { assumptions = [] }) }
+    {
+        self.forget();
+        if rule.conds.len() == 0 {
+            return match &mut self.way {
+                Way::Plain(memo) => memo.push(rule),
+                Way::Tried(trying) => trying.push(rule),
+            };
+        }
+        match &mut self.way {
+            Way::Plain(_) => self.try_with(rule),
+            Way::Tried(trying) => trying.push(rule),
+        }
+    }
+
+    // Goes over to rules that are tried, with this one last.
+    fn try_with(&mut self, rule: Rule) -> Result<(), AllocError>
+        requires rewrite { IsRewriteRule rule }
+        requires few { length self.old.rules + 1 < 2 ^ 32 }
+        ensures added { OnOk result (self.new ≡ record self.old {
+          rules = self.old.rules ++ rule ∷ [];
+          assumptions = [];
+        }) }
+        ensures err { OnErr result (self.new ≡ self.old) }
+    {
+        let trying = tried_with(self.alloc, self.theory, self.rules(), rule)?;
+        self.way = Way::Tried(trying);
+        Ok(())
+    }
+
+    // The rules, in their order.
+    fn rules(&self) -> &[Rule]
+        ensures rules { result.now ≡ self.now.rules }
+        ensures rewrite { AllByRecursion IsRewriteRule result.now }
+    {
+        match &self.way {
+            Way::Plain(memo) => memo.rules(),
+            Way::Tried(trying) => trying.rules(),
+        }
     }
 
     /// Puts these assumptions in place of those before. If it runs out of memory there are no
@@ -124,6 +190,28 @@ impl<'a> Reducer<'a> {
             Way::Tried(trying) => trying.normal(term, tries, budget),
         }
     }
+}
+
+// By these rules and one more.
+fn tried_with<'a>(
+    alloc: Global,
+    theory: &'a Theory,
+    rules: &[Rule],
+    rule: Rule,
+) -> Result<Trying<'a>, AllocError>
+    requires rules { AllByRecursion IsRewriteRule rules.now }
+    requires rule { IsRewriteRule rule }
+    requires few { length rules.now + 1 < 2 ^ 32 }
+    ensures { IfOk result (λ t. t ≡ record {
+      theory = theory.now;
+      rules = rules.now ++ rule ∷ [];
+      assumptions = [];
+    }) }
+{
+    let rules = share_rules(alloc, rules)?;
+    let mut trying = Trying::new(alloc, theory, rules)?;
+    trying.push(rule)?;
+    Ok(trying)
 }
 
 // Whether no rule has conditions.

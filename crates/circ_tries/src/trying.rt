@@ -1,5 +1,6 @@
 //! Normal forms by rules that are tried, one after the other.
-ghost use Rattle.std.specs.Prelude.{◌≡◌, ◌≤◌, ◌<◌, ◌^◌, [], length, map, IfOk, OnOk, OnErr};
+ghost use Rattle.std.specs.Prelude.{◌≡◌, ◌≤◌, ◌<◌, ◌+◌, ◌^◌, [], ◌∷◌, ◌++◌, length, map, IfOk};
+ghost use Rattle.std.specs.Prelude.{OnOk, OnErr};
 ghost use Rattle.std.specs.List.{AllByRecursion};
 ghost use Rattle.circ_theory.specs.Pairs.{plain_pair};
 ghost use Rattle.circ_rewrite.specs.Due.{IsRewriteRule};
@@ -66,6 +67,40 @@ impl<'a> Trying<'a> {
         Ok(Trying {
             work: Box::new(alloc, Work { means, store })?,
         })
+    }
+
+    // The rules, in their order.
+    pub(crate) fn rules(&self) -> &[Rule]
+        ensures rules { result.now ≡ self.now.rules }
+        ensures rewrite { AllByRecursion IsRewriteRule result.now }
+    {
+        self.work.means.rules.as_slice()
+    }
+
+    // Forgets what is known of terms, and the assumptions, and gives back what they took.
+    pub(crate) fn forget(&mut self)
+        ensures { self.new ≡ record self.old { assumptions = [] } }
+    {
+        let work = &mut *self.work;
+        work.means.forget();
+        work.store = Store::new(work.store.alloc);
+    }
+
+    // Puts a rule last, and forgets what is known of terms, and the assumptions. If it runs out of
+    // memory the rules are as before.
+    pub(crate) fn push(&mut self, rule: Rule) -> Result<(), AllocError>
+        requires rewrite { IsRewriteRule rule }
+        requires few { length self.old.rules + 1 < 2 ^ 32 }
+        ensures added { OnOk result (self.new ≡ record self.old {
+          rules = self.old.rules ++ rule ∷ [];
+          assumptions = [];
+        }) }
+        ensures err { OnErr result (self.new ≡ record self.old { assumptions = [] }) }
+    {
+        let work = &mut *self.work;
+        work.means.forget();
+        work.store = Store::new(work.store.alloc);
+        work.means.push(rule)
     }
 
     // Puts these assumptions in place of those before. If it runs out of memory there are no

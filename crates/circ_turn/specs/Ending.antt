@@ -1,16 +1,27 @@
 -- What parts of a turn answer.
-use Rattle.std.specs.Prelude.{◌≡◌, ℕ, ◌+◌, ◌-◌, Bool, true, false, List, map, length, Result, Ok, Err, Vec}
-use Rattle.circ_term.specs.Tree.{Tree}
+use Rattle.std.specs.Prelude.{◌≡◌, ℕ, ◌+◌, ◌-◌, Bool, true, false, if◌then◌else◌, List, ◌++◌, map, length, Result, Ok, Err}
+use Rattle.circ_term.specs.Tree.{Tree, sort_of}
 use Rattle.circ_theory.specs.Pairs.{plain_pair}
-use Rattle.circ_plain_search.specs.Joining.{Stop as PlainStop, HypothesisUse, use_link}
+use Rattle.circ_theory.specs.Theory.{Theory, Pair}
+use Rattle.circ_theory.specs.declared.parts.Goal.{Goal}
+use Rattle.circ_proof.specs.Goals.{with_cond}
+use Rattle.circ_proof.specs.Rules.{Cases}
+use Rattle.circ_memo.specs.Value.{Rewriting}
+use Rattle.circ_plain_search.specs.BlockRules.{block_rules}
+use Rattle.circ_plain_search.specs.Joining.{Stop as PlainStop, and_then}
 use Rattle.circ_plain_search.specs.Search.{Limits, Standing, Ending, All_done, Is_stuck, Is_spent, Is_too_big, Is_too_deep}
-use Rattle.circ_proof.specs.Plain.{plain_links}
-use Rattle.circ_proof.specs.declared.links.Link.{Link}
+use Rattle.circ_plain_search.specs.Search.{Sides, sides_with, has_links, next_goal, record_step, case_of, constants_of}
+use Rattle.circ_conditional_search.specs.Joining.{Swept}
+use Rattle.circ_conditional_search.specs.Search.{Manner, open_turn_trying, pass_chain, passed_sides, with_sides_of}
+use Rattle.circ_proof.specs.Plain.{plain_chain}
+use Rattle.circ_proof.specs.declared.links.Chain.{Chain}
+use Rattle.circ_join.specs.Sweeping.{plain_swept}
 use Rattle.circ_join.specs.Stopping.{Stops}
 use Rattle.circ_join.specs.declared.stop.Stop.{Stop}
 use Rattle.circ_join.specs.declared.stop.Stop.TheVariants as stop
 use Rattle.circ_turn.specs.declared.end.End.{End}
 use Rattle.circ_turn.specs.declared.end.End.TheVariants as end
+use Rattle.circ_turn.specs.declared.turns.SweptSides.{SweptSides}
 use Rattle.circ_turn.specs.Standing.{unlinked}
 
 -- the search ends so, or memory ran out
@@ -62,7 +73,26 @@ abbrev pub RunEnds : {X : Type 0} → (Ending → Type 0) → Standing → Resul
 RunEnds R st (Ok x) = R (All_done st.finished st.derives st.made st.deep)
 RunEnds R st (Err e) = IsEnd R e
 
--- a lemma pass over a side: the term that these uses make, with their links and what is left of the budget
-abbrev pub Sweeps : {A : Type 0} → Result (Tree × ℕ) PlainStop → List HypothesisUse → (left : ℕ) → Result (Tree × Vec (Link Tree) A) Stop → Type 0
-Sweeps r us left (Ok s) = (r ≡ Ok (s.0, left)) × (plain_links s.1.items ≡ map use_link us)
-Sweeps r us left (Err e) = Stops r e
+-- the step Cases is recorded, and the goal in hand is replaced by the goals in which u is each constant in turn
+abbrev pub cases_made : Theory → Limits → Standing → Goal → (rest : List Goal) → (u : Tree) → Result Standing Ending
+cases_made th l st g rest u =
+    and_then (record_step th l st (Cases u))
+    (λ x. Ok (next_goal x.hypotheses (map (λ c. with_cond g (case_of u c)) (constants_of th (sort_of u)) ++ rest) x))
+
+-- what the search goes on with after a lemma pass over both sides
+abbrev pub swept_turn : Theory → Manner → Standing → Goal → (rest : List Goal) → Swept × Swept → Result Standing Ending
+swept_turn th m st g rest w =
+    if has_links (pass_chain w) then Ok (with_sides_of st g rest (passed_sides w st.budget)) else open_turn_trying th m st g rest
+
+-- both sides after a lemma pass
+abbrev pub plain_swept_sides : SweptSides → Swept × Swept
+plain_swept_sides s = (plain_swept s.left, plain_swept s.right)
+
+-- a goal in normal form with the links to its sides, by the sides in normal form under its conditions
+abbrev pub GivesNormal : (conds : List Pair) → Result Sides PlainStop → (left : ℕ) → Result (Goal × Chain Tree) Stop → Type 0
+GivesNormal E r left (Ok n) = (n.0.conds ≡ E) × (r ≡ Ok (sides_with n.0.left n.0.right (plain_chain n.1) left))
+GivesNormal E r left (Err e) = Stops r e
+
+-- the rules of a block after these goals, under the conditions of a goal
+abbrev pub reducing : Theory → (earlier : List Goal) → (conds : List Pair) → Rewriting
+reducing th E A = record { theory = th; rules = block_rules th E; assumptions = A }

@@ -4,29 +4,33 @@ ghost use Rattle.std.specs.Bool.{OnTrue};
 ghost use Rattle.circ_theory.specs.declared.parts.Goal.{Goal as TheGoal};
 ghost use Rattle.circ_theory.specs.Theory.{goal};
 ghost use Rattle.circ_plain_search.specs.BlockRules.{block_rules};
-ghost use Rattle.circ_plain_search.specs.Coming.{IsReady, IsSmall};
-ghost use Rattle.circ_plain_search.specs.Search.{Reaches, Standing, Sides, normal_sides, turn};
+ghost use Rattle.circ_plain_search.specs.Search.{Standing, Sides};
+ghost use Rattle.circ_conditional_search.specs.Coming.{IsReadyTrying, IsSmallTrying};
+ghost use Rattle.circ_conditional_search.specs.Search.{Finishes, normal_sides_trying};
+ghost use Rattle.circ_conditional_search.specs.Search.{turn_trying};
 ghost use Rattle.circ_block.specs.Rules.{IsRulesOf};
-ghost use Rattle.circ_turn.specs.Standing.{standing, plain_limits, IsStart};
+ghost use Rattle.circ_turn.specs.Standing.{standing, manner_of, IsStart};
 ghost use Rattle.circ_turn.specs.Ending.{RunEnds, GoesOrDone};
 
 use crate::end::End;
 use crate::state::State;
 use circ_block::BlockRules;
-use circ_plain_search::laws::{
-    normal_goals_are_ready, standings_are_small, turns_end, what_comes_reaches,
+use circ_conditional_search::laws::{
+    normal_goals_are_ready, standings_are_small, turns_end, what_comes_finishes,
 };
 use circ_special::Gamma;
 use circ_theory::Theory;
 use std::alloc::Global;
 
-/// The budgets of a search.
+/// The budgets of a search, and whether hidden goals are split.
 #[derive(Clone, Copy)]
 pub struct Limits {
     /// The most rewrite steps.
     pub steps: u64,
     /// The most Derive steps.
     pub derives: u64,
+    /// Whether a hidden goal is split on an open term, by Cases, before it is derived.
+    pub split: bool,
 }
 
 /// What a search goes by.
@@ -38,17 +42,17 @@ pub struct Search<'a> {
     pub theory: &'a Theory,
     /// The special set.
     pub gamma: &'a Gamma,
-    /// The budgets.
+    /// The budgets, and whether hidden goals are split.
     pub limits: Limits,
 }
 
 impl<'a> Search<'a> {
     /// Goes on until every goal is done: then the finished blocks prove them.
     pub fn run(&self, state: &mut State<'_>) -> Result<(), End>
-        requires start { IsStart self.now.theory.now (plain_limits self.now.limits)
+        requires start { IsStart self.now.theory.now (manner_of self.now).limits
             (standing state.old) }
-        ensures { RunEnds (Reaches self.now.theory.now self.now.gamma.now
-            (plain_limits self.now.limits) (standing state.old)) (standing state.new) result }
+        ensures { RunEnds (Finishes self.now.theory.now self.now.gamma.now (manner_of self.now)
+            (standing state.old)) (standing state.new) result }
     {
         let mut rules = BlockRules::new(self.alloc, self.theory)?;
         let done = self.turns(&mut rules, state);
@@ -58,16 +62,16 @@ impl<'a> Search<'a> {
 
     // One turn after another, with the rules of the first block.
     fn turns(&self, rules: &mut BlockRules<'a>, state: &mut State<'_>) -> Result<(), End>
-        requires start { IsStart self.now.theory.now (plain_limits self.now.limits)
+        requires start { IsStart self.now.theory.now (manner_of self.now).limits
             (standing state.old) }
         requires rules { IsRulesOf self.now.theory.now [] rules.old }
-        ensures { RunEnds (Reaches self.now.theory.now self.now.gamma.now
-            (plain_limits self.now.limits) (standing state.old)) (standing state.new) result }
+        ensures { RunEnds (Finishes self.now.theory.now self.now.gamma.now (manner_of self.now)
+            (standing state.old)) (standing state.new) result }
     {
         self.theory.known();
         standings_are_small();
         normal_goals_are_ready();
-        what_comes_reaches();
+        what_comes_finishes();
         turns_end();
         loop {
             match self.turn(rules, state) {
@@ -82,17 +86,17 @@ impl<'a> Search<'a> {
     /// finished. False where every goal is done.
     pub fn turn(&self, rules: &mut BlockRules<'a>, state: &mut State<'_>) -> Result<bool, End>
         requires rules { IsRulesOf self.now.theory.now state.old.hyps.earlier rules.old }
-        requires small { IsSmall (standing state.old) }
+        requires small { IsSmallTrying (standing state.old) }
         requires ready { (g : TheGoal) (rest : List TheGoal) (n : Sides)
             → state.old.queue.items ≡ g ∷ rest
-            → normal_sides self.now.theory.now
-            (block_rules self.now.theory.now state.old.hyps.earlier) []
+            → normal_sides_trying self.now.theory.now
+            (block_rules self.now.theory.now state.old.hyps.earlier) g.conds
             g.left g.right state.old.budget ≡ Ok n
-            → IsReady self.now.theory.now (goal [] n.left n.right) }
-        requires next { (y : Standing) → turn self.now.theory.now self.now.gamma.now
-            (plain_limits self.now.limits) (standing state.old) ≡ Ok y → IsSmall y }
-        ensures exact { GoesOrDone (turn self.now.theory.now self.now.gamma.now
-            (plain_limits self.now.limits) (standing state.old)) (standing state.new) result }
+            → IsReadyTrying self.now.theory.now (goal g.conds n.left n.right) }
+        requires next { (y : Standing) → turn_trying self.now.theory.now self.now.gamma.now
+            (manner_of self.now) (standing state.old) ≡ Ok y → IsSmallTrying y }
+        ensures exact { GoesOrDone (turn_trying self.now.theory.now self.now.gamma.now
+            (manner_of self.now) (standing state.old)) (standing state.new) result }
         ensures rules { IfOk result (λ b. OnTrue b
             (IsRulesOf self.now.theory.now state.new.hyps.earlier rules.new)) }
     {

@@ -1,8 +1,8 @@
 //! Where a search stands.
-ghost use Rattle.std.specs.Prelude.{◌≡◌, ◌<◌, ◌≤◌, [], ◌∷◌, length, drop, map, false, ℕ};
+ghost use Rattle.std.specs.Prelude.{◌≡◌, ◌<◌, ◌≤◌, [], ◌∷◌, ◌++◌, length, drop, map, false, ℕ};
 ghost use Rattle.std.specs.Prelude.{IfOk, OnOk};
-ghost use Rattle.circ_plain_search.specs.Search.{no_links, next_goal, with_sides, sides_with};
-ghost use Rattle.circ_plain_search.specs.Search.{chained, start};
+ghost use Rattle.circ_plain_search.specs.Search.{no_links, next_goal, sides_with, chained, start};
+ghost use Rattle.circ_conditional_search.specs.Search.{with_sides_of};
 ghost use Rattle.circ_proof.specs.Plain.{plain_chain};
 ghost use Rattle.circ_turn.specs.Standing.{standing, unlinked, limits_with, KeepsRest};
 
@@ -10,9 +10,8 @@ use circ_join::Hypotheses;
 use circ_numbering::TermBlock;
 use circ_proof::{Chain, Step};
 use circ_rewrite::share_goals;
-use circ_split::Sides;
 use circ_term::Term;
-use circ_theory::{Goal, Pairs};
+use circ_theory::Goal;
 use std::alloc::{AllocError, Global};
 use std::collections::VecDeque;
 use std::mem;
@@ -110,25 +109,25 @@ impl<'a> State<'a> {
         }
     }
 
-    // The goal in hand has these sides now, to which these links have led.
-    pub(crate) fn set_sides(
+    // The goal in hand is this one now, to whose sides these links have led.
+    pub(crate) fn set_hand(
         &mut self,
         alloc: Global,
-        sides: Sides,
+        goal: &Goal,
+        chain: Chain<Term>,
         budget: u64,
     ) -> Result<(), AllocError>
         requires { 0 < length self.old.queue.items }
         ensures { OnOk result (standing self.new
-            ≡ with_sides (standing self.old) (drop 1 self.old.queue.items)
-            (sides_with sides.left sides.right (plain_chain sides.chain) budget)) }
+            ≡ with_sides_of (standing self.old) goal.now (drop 1 self.old.queue.items)
+            (sides_with goal.now.left goal.now.right (plain_chain chain) budget)) }
     {
-        let Sides { left, right, chain } = sides;
-        let conds = Pairs::new(alloc);
-        self.set_hand(Goal { conds, left, right }, budget);
+        let hand = goal.share(alloc)?;
+        self.put_hand(hand, budget);
         append(&mut self.chain, chain)
     }
 
-    fn set_hand(&mut self, hand: Goal, budget: u64)
+    fn put_hand(&mut self, hand: Goal, budget: u64)
         requires { 0 < length self.old.queue.items }
         ensures { standing self.new ≡ record (standing self.old) {
           queue = hand ∷ drop 1 self.old.queue.items;
@@ -160,6 +159,17 @@ impl<'a> State<'a> {
         self.chain = no_links(alloc);
         self.taken += 1;
     }
+}
+
+/// Puts goals before those of a queue, in their order.
+pub(crate) fn put_first(queue: &mut VecDeque<Goal>, goals: Vec<Goal>) -> Result<(), AllocError>
+    ensures { OnOk result (queue.new.items ≡ goals.items ++ queue.old.items) }
+{
+    let mut goals = goals;
+    while let Some(goal) = goals.pop() {
+        queue.push_front(goal)?;
+    }
+    Ok(())
 }
 
 // Puts the links of a chain behind those of another.

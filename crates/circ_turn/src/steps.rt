@@ -1,25 +1,32 @@
 //! Steps that are recorded.
 ghost use Rattle.std.specs.Prelude.{◌≡◌, ◌<◌, ◌≤◌, ◌+◌, ◌++◌, ◌||◌, ◌∷◌, []};
-ghost use Rattle.std.specs.Prelude.{length, drop, Ok, OnOk};
-ghost use Rattle.circ_plain_search.specs.BlockRules.{HaveNoConditions};
-ghost use Rattle.circ_plain_search.specs.Coming.{IsReady, IsSmall};
-ghost use Rattle.circ_plain_search.specs.Search.{record_step, reduced, simplified, derive_turn};
-ghost use Rattle.circ_plain_search.specs.Search.{hidden_turn, done_turn, next_goal, with_this};
-ghost use Rattle.circ_plain_search.specs.Search.{no_links, has_links, is_deep_step, Standing};
+ghost use Rattle.std.specs.Prelude.{length, map, drop, Ok, OnOk};
+ghost use Rattle.circ_term.specs.Tree.{sort_of};
+ghost use Rattle.circ_plain_search.specs.Search.{derive_turn, done_turn, next_goal, with_this};
+ghost use Rattle.circ_plain_search.specs.Search.{no_links, has_links, case_of, constants_of};
+ghost use Rattle.circ_plain_search.specs.Search.{Standing};
+ghost use Rattle.circ_conditional_search.specs.Coming.{IsReadyTrying, IsSmallTrying};
+ghost use Rattle.circ_conditional_search.specs.Search.{step_is_deep, step_recorded};
+ghost use Rattle.circ_conditional_search.specs.Search.{goal_reduced, goal_simplified};
+ghost use Rattle.circ_conditional_search.specs.Search.{hidden_turn_trying, cases_turn};
+ghost use Rattle.circ_conditional_search.specs.Search.{derives_turn};
+ghost use Rattle.circ_proof.specs.Goals.{with_cond};
 ghost use Rattle.circ_proof.specs.Plain.{plain_chain, plain_why};
 ghost use Rattle.circ_proof.specs.PlainProof.{plain_step, plain_steps};
-ghost use Rattle.circ_turn.specs.Standing.{standing, plain_limits, KeepsRest};
+ghost use Rattle.circ_turn.specs.Standing.{standing, plain_limits, manner_of, KeepsRest};
 ghost use Rattle.circ_turn.specs.Ending.{GoesTo, GoesUnlinked, GoesOrDone, end_by, end_spent};
+ghost use Rattle.circ_turn.specs.Ending.{cases_made};
 
 use crate::MOST_STEPS;
 use crate::end::End;
 use crate::search::Search;
-use crate::state::{State, share_queue};
-use circ_block::{derivatives_on, is_deep_step};
+use crate::state::{State, put_first, share_queue};
+use circ_block::{derivatives_on, step_is_deep};
 use circ_join::Stop;
 use circ_numbering::TermBlock;
 use circ_proof::{Chain, Step, Why};
 use circ_rewrite::share_goals;
+use circ_split::{case_goals, case_term};
 use circ_term::Term;
 use circ_theory::Goal;
 use std::alloc::AllocError;
@@ -78,9 +85,10 @@ impl Search<'_> {
     }
 
     // A step is recorded, unless it would be one too many.
-    fn record_step(&self, state: &mut State<'_>, step: Step<Term>) -> Result<(), End>
-        ensures exact { GoesTo (record_step self.now.theory.now (plain_limits self.now.limits)
-            (standing state.old) (plain_step step)) (standing state.new) result }
+    fn step_recorded(&self, state: &mut State<'_>, step: Step<Term>) -> Result<(), End>
+        ensures exact { GoesTo (step_recorded self.now.theory.now
+            (plain_limits self.now.limits) (standing state.old) (plain_step step))
+            (standing state.new) result }
         ensures kept { KeepsRest state.old state.new }
     {
         if state.made >= MOST_STEPS {
@@ -97,11 +105,11 @@ impl Search<'_> {
           steps = plain_steps state.old.steps.items ++ plain_step step ∷ [];
           made = state.old.made + 1;
           deep = state.old.deep ||
-              is_deep_step self.now.theory.now state.old.hyps.all (plain_step step);
+              step_is_deep self.now.theory.now state.old.hyps.all (plain_step step);
         }) }
         ensures kept { KeepsRest state.old state.new }
     {
-        let deep = is_deep_step(self.theory, state.hyps.goals(), &step);
+        let deep = step_is_deep(self.theory, state.hyps.goals(), &step);
         state.steps.push(step)?;
         state.made += 1;
         state.deep = state.deep || deep;
@@ -109,13 +117,13 @@ impl Search<'_> {
     }
 
     // The goal in hand is reduced by the reason.
-    pub(crate) fn reduced(&self, state: &mut State<'_>, why: Why<Term>) -> Result<(), End>
+    pub(crate) fn goal_reduced(&self, state: &mut State<'_>, why: Why<Term>) -> Result<(), End>
         requires taken { state.old.taken ≤ 100000 }
-        ensures { GoesTo (reduced self.now.theory.now (plain_limits self.now.limits)
+        ensures { GoesTo (goal_reduced self.now.theory.now (plain_limits self.now.limits)
             (standing state.old) (drop 1 state.old.queue.items) (plain_why why))
             (standing state.new) result }
     {
-        match self.record_step(state, Step::Reduce { why }) {
+        match self.step_recorded(state, Step::Reduce { why }) {
             Err(end) => return Err(end),
             Ok(()) => {}
         }
@@ -123,29 +131,88 @@ impl Search<'_> {
         Ok(())
     }
 
-    // A hidden goal: the Derive budget first, then a Simplify step, then Derive.
+    // A hidden goal is split, or becomes a hypothesis.
     pub(crate) fn hidden_turn(&self, state: &mut State<'_>, goal: &Goal) -> Result<(), End>
-        requires ready { IsReady self.now.theory.now goal.now }
+        requires ready { IsReadyTrying self.now.theory.now goal.now }
+        requires small { IsSmallTrying (standing state.old) }
+        ensures { GoesTo (hidden_turn_trying self.now.theory.now (manner_of self.now)
+            (standing state.old) goal.now (drop 1 state.old.queue.items))
+            (standing state.new) result }
+    {
+        match case_term(self.theory, self.limits.split, goal) {
+            Some(term) => self.cases_turn(state, goal, term),
+            None => self.derives_turn(state, goal),
+        }
+    }
+
+    // Cases: a Simplify step, and then the goal in hand is replaced by those in which the term is
+    // each constant in turn.
+    fn cases_turn(&self, state: &mut State<'_>, goal: &Goal, term: &Term) -> Result<(), End>
+        requires taken { state.old.taken ≤ 100000 }
+        ensures { GoesTo (cases_turn self.now.theory.now (plain_limits self.now.limits)
+            (standing state.old) goal.now (drop 1 state.old.queue.items) term.now)
+            (standing state.new) result }
+    {
+        match self.goal_simplified(state) {
+            Err(end) => Err(end),
+            Ok(()) => self.make_cases(state, goal, term),
+        }
+    }
+
+    // The step Cases, and its goals.
+    fn make_cases(&self, state: &mut State<'_>, goal: &Goal, term: &Term) -> Result<(), End>
+        requires taken { state.old.taken ≤ 100000 }
+        ensures { GoesTo (cases_made self.now.theory.now (plain_limits self.now.limits)
+            (standing state.old) goal.now (drop 1 state.old.queue.items) term.now)
+            (standing state.new) result }
+    {
+        let step = Step::Cases {
+            term: term.share()?,
+        };
+        match self.step_recorded(state, step) {
+            Err(end) => return Err(end),
+            Ok(()) => {}
+        }
+        self.put_cases(state, goal, term)?;
+        Ok(())
+    }
+
+    // The goals in the cases of the term take the place of the goal in hand.
+    fn put_cases(&self, state: &mut State<'_>, goal: &Goal, term: &Term) -> Result<(), AllocError>
+        requires taken { state.old.taken ≤ 100000 }
+        ensures { OnOk result (standing state.new ≡ next_goal state.old.hyps.all
+            (map (λ c. with_cond goal.now (case_of term.now c))
+            (constants_of self.now.theory.now (sort_of term.now))
+            ++ drop 1 state.old.queue.items) (standing state.old)) }
+    {
+        let goals = case_goals(self.alloc, self.theory, goal, term)?;
+        state.next_goal(self.alloc);
+        put_first(&mut state.queue, goals)
+    }
+
+    // A hidden goal that is not split: the Derive budget first, then a Simplify step, then Derive.
+    fn derives_turn(&self, state: &mut State<'_>, goal: &Goal) -> Result<(), End>
+        requires ready { IsReadyTrying self.now.theory.now goal.now }
         requires finished { length state.old.finished.items ≤ 100000 }
         requires taken { state.old.taken ≤ 100000 }
         requires derives { state.old.derives ≤ 100000 }
         requires hyps { length state.old.hyps.all ≤ 100000 }
-        ensures { GoesTo (hidden_turn self.now.theory.now (plain_limits self.now.limits)
+        ensures { GoesTo (derives_turn self.now.theory.now (plain_limits self.now.limits)
             (standing state.old) goal.now (drop 1 state.old.queue.items))
             (standing state.new) result }
     {
         if state.derives >= self.limits.derives {
             return Err(self.spent(state));
         }
-        match self.simplified(state) {
+        match self.goal_simplified(state) {
             Err(end) => Err(end),
             Ok(()) => self.derive_turn(state, goal),
         }
     }
 
     // A Simplify step, where the chain has a link.
-    fn simplified(&self, state: &mut State<'_>) -> Result<(), End>
-        ensures exact { GoesUnlinked (simplified self.now.theory.now
+    fn goal_simplified(&self, state: &mut State<'_>) -> Result<(), End>
+        ensures exact { GoesUnlinked (goal_simplified self.now.theory.now
             (plain_limits self.now.limits) (standing state.old)) (standing state.new) result }
         ensures kept { KeepsRest state.old state.new }
     {
@@ -153,12 +220,12 @@ impl Search<'_> {
             return Ok(());
         }
         let chain = state.take_chain(self.alloc);
-        self.record_step(state, Step::Simplify { chain })
+        self.step_recorded(state, Step::Simplify { chain })
     }
 
     // The goal in hand becomes a hypothesis, and its derivatives become goals.
     fn derive_turn(&self, state: &mut State<'_>, goal: &Goal) -> Result<(), End>
-        requires ready { IsReady self.now.theory.now goal.now }
+        requires ready { IsReadyTrying self.now.theory.now goal.now }
         requires finished { length state.old.finished.items ≤ 100000 }
         requires taken { state.old.taken ≤ 100000 }
         requires derives { state.old.derives ≤ 100000 }
@@ -173,7 +240,7 @@ impl Search<'_> {
         match derivatives_on(self.alloc, self.theory, goal) {
             Err(stop) => Err(self.end(state, stop)),
             Ok(derived) => {
-                match self.record_step(state, Step::Derive) {
+                match self.step_recorded(state, Step::Derive) {
                     Err(end) => return Err(end),
                     Ok(()) => {}
                 }
@@ -189,7 +256,6 @@ impl Search<'_> {
         goal: &Goal,
         derived: VecDeque<Goal>,
     ) -> Result<(), AllocError>
-        requires plain { goal.now.conds ≡ [] }
         requires taken { state.old.taken ≤ 100000 }
         requires derives { state.old.derives ≤ 100000 }
         requires hyps { length state.old.hyps.all ≤ 100000 }
@@ -210,11 +276,11 @@ impl Search<'_> {
     // is none.
     pub(crate) fn done_turn(&self, state: &mut State<'_>) -> Result<bool, End>
         requires next { (y : Standing) → done_turn self.now.theory.now
-            (plain_limits self.now.limits) (standing state.old) ≡ Ok y → IsSmall y }
+            (plain_limits self.now.limits) (standing state.old) ≡ Ok y → IsSmallTrying y }
         ensures { GoesOrDone (done_turn self.now.theory.now (plain_limits self.now.limits)
             (standing state.old)) (standing state.new) result }
     {
-        match self.record_step(state, Step::Done) {
+        match self.step_recorded(state, Step::Done) {
             Err(end) => return Err(end),
             Ok(()) => {}
         }
@@ -248,7 +314,6 @@ impl Search<'_> {
     // The block is finished, and one with these goals begins.
     fn next_block(&self, state: &mut State<'_>, block: &[Goal]) -> Result<(), AllocError>
         requires few { length state.old.hyps.earlier + length state.old.goals.items ≤ 100000 }
-        requires plain { HaveNoConditions state.old.goals.items }
         ensures { OnOk result (standing state.new ≡ record (standing state.old) {
           finished = with_this (standing state.old);
           earlier = state.old.hyps.earlier ++ state.old.goals.items;

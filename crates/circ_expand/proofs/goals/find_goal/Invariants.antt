@@ -2,7 +2,7 @@
 use Rattle.std.proofs.Common.{◌≡◌, map, drop}
 use Rattle.std.specs.List.{slice_get}
 use Rattle.circ_proof.specs.PlainProof.{plain_block}
-use Rattle.circ_expand.specs.Goals.{all_goals}
+use Rattle.circ_expansion.specs.Goals.{all_goals}
 use Rattle.circ_expand.proofs.goals.find_goal.Given as goal
 
 abbrev pub invariant-loop-block : goal.invariant-loop-block

@@ -1,9 +1,9 @@
 use Rattle.std.proofs.Common.{◌≡◌, ap, ◌∙◌}
 use Rattle.circ_theory.specs.Fresh.{given_parameters}
 use Rattle.circ_entry.specs.Entries.{Numbered, derivative_at}
-use Rattle.circ_expand.specs.Uses.{held_by}
-use Rattle.circ_expand.specs.Valuations.{valued_by}
-use Rattle.circ_expand.proofs.Holes.{same_by}
+use Rattle.circ_uses.specs.Uses.{held_by}
+use Rattle.circ_uses.specs.Valuations.{valued_by}
+use Rattle.circ_uses.proofs.Holes.{same_by}
 use Rattle.circ_expand.proofs.opening.held.Goals as goal
 
 pub returns : goal.returns

@@ -6,7 +6,7 @@ use Rattle.circ_term.proofs.Within.{drop_read}
 use Rattle.circ_entry.specs.Entries.{numbered_entries}
 use Rattle.circ_entry.specs.Plain.{plain_entries}
 use Rattle.circ_entry.specs.declared.entries.Entry.{Entry}
-use Rattle.circ_expand.specs.Uses.{held_by}
+use Rattle.circ_uses.specs.Uses.{held_by}
 use Rattle.circ_expand.proofs.Held.{few_at, held_next, held_ended}
 use Rattle.circ_expand.proofs.opening.held_all.Goals as goal
 

@@ -2,7 +2,7 @@ use Rattle.std.proofs.Common.{◌≡◌, ◌++◌, map, drop}
 use Rattle.circ_theory.specs.Theory.{Theory}
 use Rattle.circ_entry.specs.Entries.{numbered_entries}
 use Rattle.circ_entry.specs.Plain.{plain_entries}
-use Rattle.circ_expand.specs.Uses.{held_by}
+use Rattle.circ_uses.specs.Uses.{held_by}
 use Rattle.circ_expand.proofs.opening.held_all.Given as goal
 
 abbrev pub invariant-loop-entry : goal.invariant-loop-entry

@@ -1,7 +1,7 @@
 use Rattle.std.proofs.Common.{sym}
-use Rattle.circ_expand.specs.Expand.{Yields}
-use Rattle.circ_expand.specs.Machine.{pending}
-use Rattle.circ_expand.specs.Tasks.{jobs_of}
+use Rattle.circ_expansion.specs.Expand.{Yields}
+use Rattle.circ_expansion.specs.Machine.{pending}
+use Rattle.circ_tasks.specs.Tasks.{jobs_of}
 use Rattle.circ_expand.proofs.running.add_empty.Goals as goal
 
 pub returns : goal.returns

@@ -1,8 +1,8 @@
 use Rattle.std.proofs.Common.{refl, arith, ◌-◌}
-use Rattle.circ_expand.specs.Tasks.{call_of, background_in}
-use Rattle.circ_expand.specs.declared.tasks.Task.TheVariants as task
-use Rattle.circ_expand.specs.declared.tasks.Work.{Work}
-use Rattle.circ_expand.proofs.Stepping.{use_begun}
+use Rattle.circ_tasks.specs.Tasks.{call_of, background_in}
+use Rattle.circ_tasks.specs.declared.tasks.Task.TheVariants as task
+use Rattle.circ_tasks.specs.declared.tasks.Work.{Work}
+use Rattle.circ_tasks.proofs.Stepping.{use_begun}
 use Rattle.circ_expand.proofs.running.begin_use.Goals as goal
 
 pub returns : goal.returns

@@ -1,11 +1,11 @@
 use Rattle.std.proofs.Common.{Bool, true, false, refl, ap, subst}
-use Rattle.circ_expand.specs.Machine.{all_uses, end_split}
-use Rattle.circ_expand.specs.Values.{values_of, Makes}
-use Rattle.circ_expand.specs.Tasks.{background_in, jobs_of}
-use Rattle.circ_expand.specs.Expand.{Spending, Yields, continued}
-use Rattle.circ_expand.specs.Machine.{pending}
-use Rattle.circ_expand.specs.declared.tasks.Work.{Work}
-use Rattle.circ_expand.proofs.Stepping.{values_put}
+use Rattle.circ_expansion.specs.Machine.{all_uses, end_split}
+use Rattle.circ_written.specs.Values.{values_of, Makes}
+use Rattle.circ_tasks.specs.Tasks.{background_in, jobs_of}
+use Rattle.circ_expansion.specs.Expand.{Spending, Yields, continued}
+use Rattle.circ_expansion.specs.Machine.{pending}
+use Rattle.circ_tasks.specs.declared.tasks.Work.{Work}
+use Rattle.circ_tasks.proofs.Stepping.{values_put}
 use Rattle.circ_expand.proofs.running.end_split.Goals as goal
 
 pub returns-then-branch : goal.returns-then-branch

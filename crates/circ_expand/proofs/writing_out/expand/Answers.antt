@@ -2,13 +2,13 @@ use Rattle.std.proofs.Common.{subst}
 use Rattle.circ_proof.specs.PlainProof.{plain_proof}
 use Rattle.circ_term.specs.Tree.{sort_of}
 use Rattle.circ_entry.specs.Plain.{plain_entries}
-use Rattle.circ_expand.specs.Machine.{worked_off}
-use Rattle.circ_expand.specs.Rows.{unit_limit}
-use Rattle.circ_expand.specs.Expand.{expansion}
-use Rattle.circ_expand.specs.Tasks.{Halts}
-use Rattle.circ_expand.specs.declared.tasks.Halt.{Halt}
-use Rattle.circ_expand.proofs.Stepping.{halts_same}
-use Rattle.circ_expand.proofs.Working.{worked_right}
+use Rattle.circ_expansion.specs.Machine.{worked_off}
+use Rattle.circ_written.specs.Rows.{unit_limit}
+use Rattle.circ_expansion.specs.Expand.{expansion}
+use Rattle.circ_tasks.specs.Tasks.{Halts}
+use Rattle.circ_tasks.specs.declared.tasks.Halt.{Halt}
+use Rattle.circ_tasks.proofs.Stepping.{halts_same}
+use Rattle.circ_expansion.proofs.Working.{worked_right}
 use Rattle.circ_expand.proofs.Writings.{fits_few, never_halts, rows_lead, exact_rows}
 use Rattle.circ_expand.proofs.writing_out.expand.Goals as goal
 

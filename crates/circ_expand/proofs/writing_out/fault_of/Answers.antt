@@ -1,6 +1,6 @@
 use Rattle.std.proofs.Common.{refl, subst}
-use Rattle.circ_expand.specs.Tasks.{Halts}
-use Rattle.circ_expand.specs.declared.tasks.Halt.{Halt}
+use Rattle.circ_tasks.specs.Tasks.{Halts}
+use Rattle.circ_tasks.specs.declared.tasks.Halt.{Halt}
 use Rattle.circ_expand.proofs.writing_out.fault_of.Goals as goal
 
 pub returns-in-Long : goal.returns-in-Long

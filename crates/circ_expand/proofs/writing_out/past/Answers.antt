@@ -1,7 +1,7 @@
 use Rattle.std.proofs.Common.{subst}
 use Rattle.circ_term.specs.Limits.{Big, Deep, Names}
 use Rattle.circ_term.specs.declared.fault.TermFault.{TermFault}
-use Rattle.circ_expand.specs.Tasks.{past_of}
+use Rattle.circ_tasks.specs.Tasks.{past_of}
 use Rattle.circ_expand.proofs.Writings.{past_named}
 use Rattle.circ_expand.proofs.writing_out.past.Goals as goal
 

@@ -1,8 +1,8 @@
 use Rattle.std.proofs.lemmas.Result.{err_from_is_err_and}
 use Rattle.circ_proof.specs.PlainProof.{plain_proof}
 use Rattle.circ_entry.specs.Plain.{plain_entries}
-use Rattle.circ_expand.specs.Machine.{worked_off}
-use Rattle.circ_expand.specs.Rows.{unit_limit}
+use Rattle.circ_expansion.specs.Machine.{worked_off}
+use Rattle.circ_written.specs.Rows.{unit_limit}
 use Rattle.circ_expand.proofs.Writings.{memory_ends}
 use Rattle.circ_expand.proofs.writing_out.written.Goals as goal
 

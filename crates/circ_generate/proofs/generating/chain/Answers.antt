@@ -1,6 +1,4 @@
 use Rattle.circ_files.proofs.FileFaults.{if_ok}
-use Rattle.circ_files.specs.TheoryFile.{PlainTheoryRefusal}
-use Rattle.circ_files.specs.TheoryFile as file
 use Rattle.circ_files.specs.Ending.{plain_ending}
 use Rattle.circ_generate.specs.Generating.{Generates, unread_ending, no_theory}
 use Rattle.std.proofs.Common.{◌≡◌}
@@ -11,4 +9,4 @@ returns-in-Err-Statement c =
     let place = c.in-Err-Statement.place in
     let cause = c.in-Err-Statement.cause in
     if_ok (λ e. plain_ending e ≡ unread_ending 1 place cause) (λ e. Generates c.args.number (plain_ending e)) c.unread.result c.unread.ensures
-    (λ e is. no_theory (plain_ending e) place cause (file.no_theory place cause _ (rw (c.in-Err-Statement.field-0-is, c.as_slice.ensures.value, c.in_ok-text.ensures) at c.in-Err-Statement.ensures.gives)) is)
+    (λ e is. no_theory (plain_ending e) place cause (rw (c.in-Err-Statement.field-0-is, c.as_slice.ensures.value, c.in_ok-text.ensures) at c.in-Err-Statement.ensures.gives) is)

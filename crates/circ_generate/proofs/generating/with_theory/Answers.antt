@@ -1,5 +1,5 @@
 use Rattle.circ_theory.specs.Theory.{Theory}
-use Rattle.circ_files.specs.TheoryFile.{ReadsAsPlain}
+use Rattle.circ_read.specs.ReadsAs.{ReadsAs}
 use Rattle.circ_files.proofs.FileFaults.{if_ok}
 use Rattle.circ_files.specs.Ending.{plain_ending}
 use Rattle.circ_generate.specs.Chain.{chain_theory}
@@ -17,4 +17,4 @@ returns-in-Err-Statement c =
 
 pub with_script-requires-clause-theory : goal.with_script-requires-clause-theory
 with_script-requires-clause-theory c =
-    let P : Theory → Type 0 = ReadsAsPlain (chain_theory c.args.number) in subst P (sym c.read_script.ensures.kept) c.requires.reads
+    let P : Theory → Type 0 = ReadsAs (chain_theory c.args.number) in subst P (sym c.read_script.ensures.kept) c.requires.reads

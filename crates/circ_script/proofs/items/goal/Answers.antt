@@ -1,11 +1,6 @@
 use Rattle.circ_lexer.specs.TokenList.{tokens_in}
-use Rattle.circ_script.proofs.Shapes.{more_sides}
+use Rattle.circ_script.proofs.Shapes.{no_goal_word}
 use Rattle.circ_script.proofs.items.goal.Goals as goal
 
-pub returns-in-Some : goal.returns-in-Some
-returns-in-Some c =
-    let ts = c.args.tokens.now in
-    let s = c.in_ok-sides-2.ensures in
-    more_sides (tokens_in ts c.args.words) (tokens_in ts c.in_ok-sides.sides) (tokens_in ts c.in_ok-sides-2.sides.left)
-    (tokens_in ts c.in_ok-sides-2.sides.right)
-    (tokens_in ts c.in-Some.field-0.left) (tokens_in ts c.in-Some.field-0.right) c.in_ok-sides.ensures.words s.words s.first c.in-Some.ensures.words
+pub returns-in-None : goal.returns-in-None
+returns-in-None c = no_goal_word (tokens_in c.args.tokens.now c.args.words) c.in_default.ensures c.in-None.ensures

@@ -6,8 +6,8 @@ use Rattle.circ_script.proofs.items.item.Goals as goal
 pub returns-in-Some : goal.returns-in-Some
 returns-in-Some c =
     let ts = c.args.tokens.now in
-    rw c.shaped.ensures (shaped_as ts (tokens_in ts c.args.words) (codes "add") (tokens_in ts c.in-Some.rest) c.in-Some.ensures.words refl c.goal.result
-    c.goal.ensures)
+    rw c.shaped.ensures (shaped_as ts (tokens_in ts c.args.words) (codes "add") (tokens_in ts c.in-Some.rest) c.in-Some.ensures.words refl c.in_ok-goal.field-0
+    c.in_ok-goal.ensures)
 
 pub returns-in-Some-after : goal.returns-in-Some-after
 returns-in-Some-after c =

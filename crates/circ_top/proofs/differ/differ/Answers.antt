@@ -13,20 +13,21 @@ returns-in-Err-clause-refused g c = theory_fault c.in-Err.status c.in-Err.ensure
 
 pub returns-in-Err-take_script-clause-refused : goal.returns-in-Err-take_script-clause-refused
 returns-in-Err-take_script-clause-refused g c =
-    script_fault c.in-Err-take_script.status c.in-Ok.theory c.in-Ok.ensures.takes
-    (quiet_fault 2 c.args.script.now (ScriptRefusal c.in-Ok.theory job.Prove) _ _ _ c.in-Err-take_script.status
+    script_fault c.in-Err-take_script.status c.in-Ok.theory
+    (record { bytes = c.in-Ok.ensures.takes.bytes; well_formed = c.in-Ok.ensures.takes.well_formed; reads = c.in-Ok.ensures.takes.reads })
+    (quiet_fault 2 c.args.script.now (ScriptRefusal c.in-Ok.theory job.Differ) _ _ _ c.in-Err-take_script.status
     c.in-Ok.ensures.frame c.in-Ok.ensures.quiet c.in-Err-take_script.ensures.fault)
 
-pub searchable-requires-clause-fit : goal.searchable-requires-clause-fit
-searchable-requires-clause-fit g c =
+pub plainly_searchable-requires-clause-fit : goal.plainly_searchable-requires-clause-fit
+plainly_searchable-requires-clause-fit g c =
     let read = c.in-Ok-take_script.ensures.takes.bytes in
     rw c.in-Ok-take_script.ensures.kept
-    (c.scripts_are_fit.ensures.fit c.in-Ok.theory job.Prove read.bytes (plain_script c.in-Ok-take_script.script) c.in-Ok.ensures.takes.well_formed read.are)
+    (c.scripts_are_fit.ensures.fit c.in-Ok.theory job.Differ read.bytes (plain_script c.in-Ok-take_script.script) c.in-Ok.ensures.takes.well_formed read.are)
 
-pub searchable-requires-clause-goals : goal.searchable-requires-clause-goals
-searchable-requires-clause-goals g c =
+pub plainly_searchable-requires-clause-goals : goal.plainly_searchable-requires-clause-goals
+plainly_searchable-requires-clause-goals g c =
     let read = c.in-Ok-take_script.ensures.takes.bytes in
-    c.scripts_are_fit.ensures.is_for c.in-Ok.theory job.Prove read.bytes (plain_script c.in-Ok-take_script.script) read.are
+    c.scripts_are_fit.ensures.is_for c.in-Ok.theory job.Differ read.bytes (plain_script c.in-Ok-take_script.script) read.are
 
 pub returns-in-Ok-look_for_difference-clause-sought : goal.returns-in-Ok-look_for_difference-clause-sought
 returns-in-Ok-look_for_difference-clause-sought g c =
@@ -35,17 +36,16 @@ returns-in-Ok-look_for_difference-clause-sought g c =
     record {
       th = th;
       sc = sc;
-      searchable = rw c.in-Ok-take_script.ensures.kept at c.searchable.ensures.searchable;
-      ends = rw (c.as_slice.ensures.value, sym c.searchable.ensures.same, c.in-Ok-take_script.ensures.kept) at c.in-Ok-look_for_difference.ensures;
-      takes_theory = c.in-Ok.ensures.takes;
-      takes_script = script_before c.args.script.now th job.Prove sc _ _ c.in-Ok.ensures.frame c.in-Ok-take_script.ensures.takes;
+      ends = rw (c.as_slice.ensures.value, sym c.plainly_searchable.ensures.same, c.in-Ok-take_script.ensures.kept) at c.in-Ok-look_for_difference.ensures;
+      takes_theory = record { bytes = c.in-Ok.ensures.takes.bytes; well_formed = c.in-Ok.ensures.takes.well_formed; reads = c.in-Ok.ensures.takes.reads };
+      takes_script = script_before c.args.script.now th job.Differ sc _ _ c.in-Ok.ensures.frame c.in-Ok-take_script.ensures.takes;
     }
 
 pub returns-clause-refused : goal.returns-clause-refused
 returns-clause-refused g c = theory_fault status.Memory tt
 
 pub differ-requires-clause-searchable : goal.differ-requires-clause-searchable
-differ-requires-clause-searchable g c = rw (c.as_slice.ensures.value, sym c.searchable.ensures.same) c.searchable.ensures.searchable
+differ-requires-clause-searchable g c = rw (c.as_slice.ensures.value, sym c.plainly_searchable.ensures.same) c.plainly_searchable.ensures.searchable
 
-pub searchable-requires-clause-plain : goal.searchable-requires-clause-plain
-searchable-requires-clause-plain g c = rw c.in-Ok-take_script.ensures.kept c.in-Ok.ensures.takes.plain
+pub plainly_searchable-requires-clause-plain : goal.plainly_searchable-requires-clause-plain
+plainly_searchable-requires-clause-plain g c = rw c.in-Ok-take_script.ensures.kept c.in-Ok.ensures.takes.plain

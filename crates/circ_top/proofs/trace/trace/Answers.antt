@@ -13,7 +13,8 @@ returns-in-Err-clause-refused g c = theory_fault c.in-Err.status c.in-Err.ensure
 
 pub returns-in-Err-take_script-clause-refused : goal.returns-in-Err-take_script-clause-refused
 returns-in-Err-take_script-clause-refused g c =
-    script_fault c.in-Err-take_script.status c.in-Ok.theory c.in-Ok.ensures.takes
+    script_fault c.in-Err-take_script.status c.in-Ok.theory
+    (record { bytes = c.in-Ok.ensures.takes.bytes; well_formed = c.in-Ok.ensures.takes.well_formed; reads = c.in-Ok.ensures.takes.reads })
     (quiet_fault 2 c.args.script.now (ScriptRefusal c.in-Ok.theory job.Prove) _ _ _ c.in-Err-take_script.status
     c.in-Ok.ensures.frame c.in-Ok.ensures.quiet c.in-Err-take_script.ensures.fault)
 
@@ -35,9 +36,8 @@ returns-in-Ok-trace_search-clause-traced g c =
     record {
       th = th;
       sc = sc;
-      searchable = rw c.in-Ok-take_script.ensures.kept at c.searchable.ensures.searchable;
       ends = rw (c.as_slice.ensures.value, sym c.searchable.ensures.same, c.in-Ok-take_script.ensures.kept) at c.in-Ok-trace_search.ensures;
-      takes_theory = c.in-Ok.ensures.takes;
+      takes_theory = record { bytes = c.in-Ok.ensures.takes.bytes; well_formed = c.in-Ok.ensures.takes.well_formed; reads = c.in-Ok.ensures.takes.reads };
       takes_script = script_before c.args.script.now th job.Prove sc _ _ c.in-Ok.ensures.frame c.in-Ok-take_script.ensures.takes;
     }
 
@@ -46,6 +46,3 @@ returns-clause-refused g c = theory_fault status.Memory tt
 
 pub trace-requires : goal.trace-requires
 trace-requires g c = record { searchable = rw (c.as_slice.ensures.value, sym c.searchable.ensures.same) c.searchable.ensures.searchable }
-
-pub searchable-requires-clause-plain : goal.searchable-requires-clause-plain
-searchable-requires-clause-plain g c = rw c.in-Ok-take_script.ensures.kept c.in-Ok.ensures.takes.plain

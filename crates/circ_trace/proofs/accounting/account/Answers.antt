@@ -4,6 +4,7 @@ use Rattle.circ_term.proofs.Within.{drop_read}
 use Rattle.circ_theory.specs.declared.parts.Goal.{Goal}
 use Rattle.circ_turn.specs.Standing.{standing}
 use Rattle.circ_turn.proofs.Earlier.{none_there}
+use Rattle.circ_turn.proofs.Turning.{front_few}
 use Rattle.circ_trace.specs.Account.{account_at, plain_account_if}
 use Rattle.circ_trace.proofs.accounting.account.Goals as goal
 
@@ -19,3 +20,9 @@ returns-in-Some-clause-exact c =
     let P : List Goal → Type 0
     = λ q. IfOk c.goal_account.result (λ o. plain_account_if o ≡ account_at c.args.search.now.theory.now c.args.search.now.gamma.now (standing c.args.state.now) q) in
     subst P (sym front) c.goal_account.ensures.exact
+
+pub goal_account-requires-clause-few : goal.goal_account-requires-clause-few
+goal_account-requires-clause-few c =
+    let Q : List Goal = c.args.state.now.queue.items in
+    let front : Q ≡ c.in-Some.goal.now ∷ drop 1 Q = drop_read Q 0 c.in-Some.goal.now c.in-Some.ensures.item.3.0 c.in-Some.ensures.lookup in
+    front_few Q c.in-Some.goal.now (drop 1 Q) front c.requires.small.few_conds

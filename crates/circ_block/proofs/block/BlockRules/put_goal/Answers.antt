@@ -1,8 +1,8 @@
-use Rattle.std.proofs.Common.{◌≡◌, ◌+◌, ◌<◌, ◌^◌, true, false, length, refl, ap, sym, ◌∙◌, arith, Result, Ok, Err}
+use Rattle.std.proofs.Common.{◌≡◌, ◌+◌, true, false, refl, ap, sym, ◌∙◌, arith, Result, Ok, Err}
 use Rattle.std.specs.Prelude.{OnOk}
 use Rattle.circ_term.specs.Tree.{sort_of}
 use Rattle.circ_theory.specs.Observing.{is_hidden}
-use Rattle.circ_block.proofs.Lemmas.{block_few, lemmas_few, put_none, put_hidden, put_visible}
+use Rattle.circ_block.proofs.Lemmas.{rules_room, lemmas_room, put_none, put_hidden, put_visible}
 use Rattle.circ_block.proofs.block.BlockRules.put_goal.Goals as goal
 
 on_ok : {T E A B : Type 0} (r : Result T E) → (A → B) → OnOk r A → OnOk r B
@@ -17,7 +17,8 @@ returns-then-not-branch c = λ E h.
 pub push_lemma-requires-clause-few : goal.push_lemma-requires-clause-few
 push_lemma-requires-clause-few c =
     let few = c.requires.few in
-    omega (arith, ap length few.1.lemmas, lemmas_few c.args.theory.now few.0 (omega (arith, few.2)))
+    let room = lemmas_room c.args.theory.now few.0 c.args.self.now few.1 (omega (arith, few.2)) in
+    room
 
 pub returns-then-is_hidden : goal.returns-then-is_hidden
 returns-then-is_hidden c = λ E h.
@@ -32,13 +33,8 @@ returns-then-is_hidden c = λ E h.
 pub push_rule-requires-clause-few : goal.push_rule-requires-clause-few
 push_rule-requires-clause-few c =
     let few = c.requires.few in
-    omega (arith, ap (λ m. length m.rules) few.1.plain, block_few c.args.theory.now c.known.ensures few.0 (omega (arith, few.2)))
-
-pub push_rule-requires-2-clause-few : goal.push_rule-requires-2-clause-few
-push_rule-requires-2-clause-few c =
-    let few = c.requires.few in
-    let room : length c.args.self.now.cases.rules + 1 < 2 ^ 32 = omega (arith, ap length few.1.rules, block_few c.args.theory.now c.known.ensures few.0 (omega (arith, few.2))) in
-    room
+    let room = rules_room c.args.theory.now c.known.ensures few.0 c.args.self.now few.1 (omega (arith, few.2)) in
+    record { goals = room.goals; aside = room.aside; cases = room.cases }
 
 pub returns : goal.returns
 returns c = λ E h.
@@ -46,7 +42,6 @@ returns c = λ E h.
     let g = c.args.goal.now in
     let r = c.args.self.now in
     let visible : is_hidden th (sort_of g.left) ≡ false = ap (is_hidden th) (sym c.sort.ensures) ∙ sym c.is_hidden.ensures.exact ∙ c.if-is_hidden.false in
-    on_ok c.push_rule-2.result
-    (λ e. put_visible th E g r h (r.count + 1) refl c.push_rule.new.memo c.push_rule-2.new.memo (sym c.in_ok-can_rewrite.ensures ∙ c.if-not-branch.false) visible
-    c.in_ok-push_rule.ensures e)
-    c.push_rule-2.ensures
+    on_ok c.push_rule.result
+    (λ e. put_visible th E g r h (r.count + 1) refl c.push_rule.new.self (sym c.in_ok-can_rewrite.ensures ∙ c.if-not-branch.false) visible e)
+    c.push_rule.ensures

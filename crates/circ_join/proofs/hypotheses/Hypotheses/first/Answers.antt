@@ -1,51 +1,42 @@
-use Rattle.std.proofs.Common.{◌≡◌, ◌+◌, ◌*◌, ◌++◌, map, length, Some, None, length-append, ap, subst, ◌∙◌, arith}
-use Rattle.std.proofs.lemmas.List.{length-map}
+use Rattle.std.proofs.Common.{◌≡◌, ◌++◌, ◌+◌, ◌*◌, ◌-◌, map, length, Some, ap, sym, subst, ◌∙◌, arith}
+use Rattle.std.specs.Prelude.{IfOk}
 use Rattle.circ_index.specs.Finding.{FindsFirstPair}
-use Rattle.circ_plain_search.specs.BlockRules.{HaveNoConditions}
 use Rattle.circ_join.specs.Hypotheses.{both_sides}
-use Rattle.circ_join.proofs.TwoParts.{pair_in_first, pair_in_second, pair_in_neither, place_there}
+use Rattle.circ_join.proofs.TwoParts.{pair_in_front, pair_later_ok, earlier_count}
 use Rattle.circ_join.proofs.hypotheses.Hypotheses.first.Goals as goal
 
-pub overflow_add-result : goal.overflow_add-result
-overflow_add-result c =
+pub own_first-requires : goal.own_first-requires
+own_first-requires c =
     let x = c.self.inside in
-    let found = rw c.in-Some-2.is at c.in_ok-place-in-None.ensures in
-    omega (arith, place_there x.own c.args.a.now c.args.b.now c.in-Some-2.place c.in-Some-2.subst found, c.len.ensures, ap length c.self.invariant.sides, length-append x.earlier x.own, length-map x.goals.items both_sides, c.self.invariant.few)
+    omega (arith, c.len.ensures, earlier_count x.goals.items x.earlier x.own c.self.invariant.sides, ap (λ h. length h.earlier) c.self.view_is)
 
-pub returns-in-Some : goal.returns-in-Some
-returns-in-Some c =
+pub own_first-requires-in-None : goal.own_first-requires-in-None
+own_first-requires-in-None c =
+    let x = c.self.inside in
+    omega (arith, c.len.ensures, earlier_count x.goals.items x.earlier x.own c.self.invariant.sides, ap (λ h. length h.earlier) c.self.view_is)
+
+pub returns-then-from-before-clause-found : goal.returns-then-from-before-clause-found
+returns-then-from-before-clause-found c =
+    let is : 2 * c.len.result + (c.args.from - 2 * c.len.result) ≡ c.args.from = omega (arith, c.if-from-before.true) in
+    subst (λ n. IfOk c.own_first.result (FindsFirstPair (map both_sides c.args.self.now.all) n c.args.a.now c.args.b.now)) is c.own_first.ensures
+
+pub returns-in-Some-clause-found : goal.returns-in-Some-clause-found
+returns-in-Some-clause-found c =
+    let x = c.self.inside in
+    let a = c.args.a.now in
+    let b = c.args.b.now in
+    let f = c.in-Some.found in
+    let all : x.earlier ++ x.own ≡ map both_sides c.args.self.now.all = c.self.invariant.sides ∙ ap (λ h. map both_sides h.all) c.self.view_is in
+    subst (λ ps. FindsFirstPair ps c.args.from a b (Some f)) all (pair_in_front x.earlier x.own a b c.args.from f.0 f.1 (rw c.in-Some.is at c.in_ok-found.ensures))
+
+pub returns-in-None-clause-found : goal.returns-in-None-clause-found
+returns-in-None-clause-found c =
     let x = c.self.inside in
     let a = c.args.a.now in
     let b = c.args.b.now in
     let all : x.earlier ++ x.own ≡ map both_sides c.args.self.now.all = c.self.invariant.sides ∙ ap (λ h. map both_sides h.all) c.self.view_is in
-    record {
-      found = subst (λ ps. FindsFirstPair ps 0 a b (Some c.in-Some.found)) all (pair_in_first x.earlier x.own a b c.in-Some.found.0 c.in-Some.found.1 (rw c.in-Some.is at c.in_ok-found.ensures));
-      plain = subst (λ gs. HaveNoConditions gs) (ap (λ h. h.all) c.self.view_is) c.self.invariant.plain;
-    }
-
-pub returns-in-Some-2 : goal.returns-in-Some-2
-returns-in-Some-2 c =
-    let x = c.self.inside in
-    let a = c.args.a.now in
-    let b = c.args.b.now in
-    let p = c.in-Some-2.place in
-    let n = 2 * c.len.result + p in
-    let all : x.earlier ++ x.own ≡ map both_sides c.args.self.now.all = c.self.invariant.sides ∙ ap (λ h. map both_sides h.all) c.self.view_is in
-    let is : n ≡ 2 * length x.earlier + p = omega (arith, c.len.ensures) in
-    record {
-      found = subst (λ ps. FindsFirstPair ps 0 a b (Some (n, c.in-Some-2.subst))) all
-          (pair_in_second x.earlier x.own a b p n c.in-Some-2.subst is (rw c.in-None.is at c.in_ok-found.ensures) (rw c.in-Some-2.is at c.in_ok-place-in-None.ensures));
-      plain = subst (λ gs. HaveNoConditions gs) (ap (λ h. h.all) c.self.view_is) c.self.invariant.plain;
-    }
-
-pub returns-in-None-2 : goal.returns-in-None-2
-returns-in-None-2 c =
-    let x = c.self.inside in
-    let a = c.args.a.now in
-    let b = c.args.b.now in
-    let all : x.earlier ++ x.own ≡ map both_sides c.args.self.now.all = c.self.invariant.sides ∙ ap (λ h. map both_sides h.all) c.self.view_is in
-    record {
-      found = subst (λ ps. FindsFirstPair ps 0 a b None) all
-          (pair_in_neither x.earlier x.own a b (rw c.in-None.is at c.in_ok-found.ensures) (rw c.in-None-2.is at c.in_ok-place-in-None.ensures));
-      plain = subst (λ gs. HaveNoConditions gs) (ap (λ h. h.all) c.self.view_is) c.self.invariant.plain;
-    }
+    let none = rw c.in-None.is at c.in_ok-found.ensures in
+    let is : 2 * c.len.result + 0 ≡ 2 * length x.earlier = omega (arith, c.len.ensures) in
+    subst (λ ps. IfOk c.own_first-in-None.result (FindsFirstPair ps c.args.from a b)) all
+    (pair_later_ok x.earlier x.own a b c.args.from (2 * c.len.result + 0) c.own_first-in-None.result is (omega (arith, c.if-from-before.false)) none
+    (subst (λ ps. IfOk c.own_first-in-None.result (FindsFirstPair ps (2 * c.len.result + 0) a b)) (sym all) c.own_first-in-None.ensures))

@@ -1,15 +1,8 @@
-use Rattle.std.proofs.Common.{◌≡◌, ◌++◌, ℕ, zero, suc, List, [], ◌∷◌, take, map, length, ap, sym, subst, ◌∙◌, arith}
+use Rattle.std.proofs.Common.{◌≡◌, ◌++◌, take, map, length, ap, sym, ◌∙◌, arith}
 use Rattle.std.proofs.Math.Seq.{take-append_seam}
 use Rattle.std.proofs.lemmas.List.{append-nil, length-take, take-map}
-use Rattle.circ_theory.specs.declared.parts.Goal.{Goal}
-use Rattle.circ_plain_search.specs.BlockRules.{HaveNoConditions}
 use Rattle.circ_join.specs.Hypotheses.{both_sides}
 use Rattle.circ_join.proofs.hypotheses.Hypotheses.forget_own.Goals as goal
-
-taken : (n : ℕ) (gs : List Goal) → HaveNoConditions gs → HaveNoConditions (take n gs)
-taken zero gs a = tt
-taken (suc n) [] a = tt
-taken (suc n) (g ∷ gs) a = (a.0, taken n gs a.1)
 
 pub invariant_of-self : goal.invariant_of-self
 invariant_of-self c =
@@ -22,5 +15,4 @@ invariant_of-self c =
     record {
       sides = ap (λ o. x.earlier ++ o) c.new.ensures ∙ append-nil x.earlier ∙ sym front ∙ take-map both_sides n goals ∙ ap (map both_sides) (sym kept);
       few = omega (arith, ap length kept, length-take n goals, c.self.invariant.few);
-      plain = subst (λ gs. HaveNoConditions gs) (sym kept) (taken n goals c.self.invariant.plain);
     }

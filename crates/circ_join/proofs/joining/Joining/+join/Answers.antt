@@ -1,37 +1,58 @@
-use Rattle.std.proofs.Common.{◌≡◌, length, map, List, [], ◌∷◌, ◌++◌, refl, ap, sym, ◌∙◌, arith}
+use Rattle.std.proofs.Common.{◌==◌, length, [], ◌∷◌, ◌++◌, refl, ap, sym, ◌∙◌, arith}
+use Rattle.std.proofs.lemmas.List.{map-append}
 use Rattle.circ_term.specs.Tree.{trees_of, depth_of, args_of}
 use Rattle.circ_term.proofs.Trees.{list_of-trees_of}
 use Rattle.circ_term.proofs.Within.{depth_at}
-use Rattle.circ_plain_search.specs.Joining.{HypothesisUse}
+use Rattle.circ_term.specs.Order.{is_same}
+use Rattle.circ_plain_search.specs.Joining.{is_place}
+use Rattle.circ_conditional_search.specs.Joining.{joined_trying}
+use Rattle.circ_join.specs.Trying.{normaliser_of, beside_alone}
 use Rattle.circ_join.specs.Uses.{plain_use, plain_uses}
-use Rattle.circ_join.proofs.Joins.{joined_same, not_same, joined_used, joined_all, all_joined_lengths, going_same, going_no_place, going_none, going_on, nil_joints}
+use Rattle.circ_join.proofs.Joins.{not_same, is_same_at, joined_same, joined_used, joined_inside, joined_hindered, inside_no_application, inside_all, inside_others, differ_first, differ_second}
+use Rattle.circ_join.proofs.Joins.{beside_not, beside_joins, going_start, going_on, going_none, going_hindered, going_short, going_end, nil_right}
+use Rattle.circ_join.proofs.joining.Joining.+join.Goals.{joins_inside-then-op-other_op-via-then-op-other_op, joins_inside-then-op-other_op-via-else-op-other_op+then-sort-other_sort}
 use Rattle.circ_join.proofs.joining.Joining.+join.Goals as goal
 
-map_append : {X Y : Type 0} (f : X → Y) (xs ys : List X) → map f (xs ++ ys) ≡ map f xs ++ map f ys
-map_append f [] ys = refl
-map_append f (x ∷ xs) ys = ap (λ r. f x ∷ r) (map_append f xs ys)
+-- ---- two terms
 
 pub joins-returns-then-same-clause-exact : goal.joins-returns-then-same-clause-exact
 joins-returns-then-same-clause-exact t c = (
   [],
-  joined_same c.args.self.now.gamma.now c.args.self.now.hyps.now.all c.args.path.now.items c.args.a.now c.args.b.now (c.same.ensures.0 c.if-same.true),
-  nil_joints (plain_uses c.args.uses.now.items),
+  joined_same (normaliser_of c.args.reducer.now) c.args.self.now.gamma.now c.args.self.now.hyps.now.all c.args.path.now.items c.args.a.now c.args.b.now c.args.budget.now
+      (c.same.ensures.0 c.if-same.true),
+  sym (nil_right (plain_uses c.args.uses.now.items)),
 )
 
-pub joins-returns-in-Some-clause-exact : goal.joins-returns-in-Some-clause-exact
-joins-returns-in-Some-clause-exact t c =
-    let j : HypothesisUse = plain_use c.in-Some.one in
-    let used = rw (c.in-Some.is, c.as_slice.ensures) at c.in_ok-one.ensures in (
-      j ∷ [],
-      joined_used c.args.self.now.gamma.now c.args.self.now.hyps.now.all c.args.path.now.items c.args.a.now c.args.b.now j
-          (not_same c.same.result c.args.a.now c.args.b.now c.same.ensures c.if-same.false) (sym used),
-      ap plain_uses c.in_ok-push.ensures.items ∙ map_append plain_use c.args.uses.now.items (c.in-Some.one ∷ []),
+pub joins-returns-in-Err-clause-exact : goal.joins-returns-in-Err-clause-exact
+joins-returns-in-Err-clause-exact t c =
+    joined_hindered (normaliser_of c.args.reducer.now) c.args.self.now.gamma.now c.args.self.now.hyps.now.all c.args.path.now.items c.args.a.now c.args.b.now c.args.budget.now
+    c.first_use.new.budget c.in-Err.fault (not_same c.same.result c.args.a.now c.args.b.now c.same.ensures c.if-same.false) (rw c.as_slice.ensures at c.in-Err.ensures.exact)
+
+pub joins-returns-in_ok-push-in-Ok-Some-clause-exact : goal.joins-returns-in_ok-push-in-Ok-Some-clause-exact
+joins-returns-in_ok-push-in-Ok-Some-clause-exact t c =
+    let one = c.in-Ok-Some.one in
+    let used = rw (c.in-Ok-Some.field-0-is, c.as_slice.ensures) at c.in-Ok-Some.ensures.exact in (
+      plain_use one ∷ [],
+      joined_used (normaliser_of c.args.reducer.now) c.args.self.now.gamma.now c.args.self.now.hyps.now.all c.args.path.now.items c.args.a.now c.args.b.now c.args.budget.now
+          c.first_use.new.budget (plain_use one) (not_same c.same.result c.args.a.now c.args.b.now c.same.ensures c.if-same.false) used,
+      ap plain_uses c.in_ok-push-in-Ok-Some.ensures.items ∙ map-append plain_use c.args.uses.now.items (one ∷ []),
     )
 
-pub joins-joins_inside-requires : goal.joins-joins_inside-requires
-joins-joins_inside-requires t c =
-    let none = rw (c.in_default.is, c.as_slice.ensures) at c.in_ok-one.ensures in
-    (omega arith, (not_same c.same.result c.args.a.now c.args.b.now c.same.ensures c.if-same.false, sym none))
+pub joins-returns-in-Ok-None-clause-exact : goal.joins-returns-in-Ok-None-clause-exact
+joins-returns-in-Ok-None-clause-exact t c =
+    let f = normaliser_of c.args.reducer.now in
+    let none = rw (c.in-Ok-None.field-0-is, c.as_slice.ensures) at c.in-Ok-None.ensures.exact in
+    let same = joined_inside f c.args.self.now.gamma.now c.args.self.now.hyps.now.all c.args.path.now.items c.args.a.now c.args.b.now c.args.budget.now c.first_use.new.budget
+    (not_same c.same.result c.args.a.now c.args.b.now c.same.ensures c.if-same.false) none in
+    rw same (rw c.first_use.ensures.same at c.joins_inside.ensures.exact)
+
+-- ---- inside two terms
+
+pub joins_inside-returns-in-Application-Variable-clause-exact : goal.joins_inside-returns-in-Application-Variable-clause-exact
+joins_inside-returns-in-Application-Variable-clause-exact t c =
+    let x = c.in-Application-Variable in
+    inside_no_application (normaliser_of c.args.reducer.now) c.args.self.now.gamma.now c.args.self.now.hyps.now.all c.args.path.now.items c.args.a.now c.args.b.now _ _
+    _ _ c.args.budget.now _ x.ensures.value x.ensures'.value
 
 pub joins_inside-all_join-requires : goal.joins_inside-all_join-requires
 joins_inside-all_join-requires t c =
@@ -41,52 +62,97 @@ joins_inside-all_join-requires t c =
     let same = ap length (list_of-trees_of c.in-Application-Application.args.now) in
     (omega (arith, depth), omega (arith, there, same, c.kind.ensures.few))
 
+pub joins_inside-returns-then-op-other_op-clause-exact : goal.joins_inside-returns-then-op-other_op-clause-exact
+joins_inside-returns-then-op-other_op-clause-exact t c =
+    let x = c.in-Application-Application in
+    inside_others (normaliser_of c.args.reducer.now) c.args.self.now.gamma.now c.args.self.now.hyps.now.all c.args.path.now.items c.args.a.now c.args.b.now x.op x.sort
+    x.other_op x.other_sort c.args.budget.now (trees_of x.args.now) (trees_of x.others.now) x.ensures.value x.ensures'.value
+    (elim c.then-op-other_op.branch [
+      | joins_inside-then-op-other_op-via-then-op-other_op w ↦ differ_first x.op x.other_op (x.sort == x.other_sort) w.if-op-other_op.true
+      | joins_inside-then-op-other_op-via-else-op-other_op+then-sort-other_sort w ↦ differ_second (x.op == x.other_op) x.sort x.other_sort w.if-sort-other_sort.true
+    ])
+
 pub joins_inside-returns-else-sort-other_sort-clause-exact : goal.joins_inside-returns-else-sort-other_sort-clause-exact
 joins_inside-returns-else-sort-other_sort-clause-exact t c =
     let x = c.in-Application-Application in
-    let e = joined_all c.args.self.now.gamma.now c.args.self.now.hyps.now.all c.args.path.now.items c.args.a.now c.args.b.now x.op x.sort x.other_op x.other_sort
-    (trees_of x.args.now) (trees_of x.others.now) x.ensures.value x.ensures'.value c.requires.differ c.requires.unused
-    c.if-op-other_op.false c.if-sort-other_sort.false in
-    rw e c.all_join.ensures.exact
+    let same = inside_all (normaliser_of c.args.reducer.now) c.args.self.now.gamma.now c.args.self.now.hyps.now.all c.args.path.now.items c.args.a.now c.args.b.now x.op x.sort
+    x.other_op x.other_sort c.args.budget.now (trees_of x.args.now) (trees_of x.others.now) x.ensures.value x.ensures'.value c.if-op-other_op.false c.if-sort-other_sort.false in
+    rw same c.all_join.ensures.exact
 
-pub all_join-returns-then-args-others-clause-exact : goal.all_join-returns-then-args-others-clause-exact
-all_join-returns-then-args-others-clause-exact t c =
-    all_joined_lengths c.args.self.now.gamma.now c.args.self.now.hyps.now.all c.args.op c.args.path.now.items 0 c.args.args.now c.args.others.now c.if-args-others.true
+-- ---- arguments
 
-pub all_join-loop-i-preserved-then-same : goal.all_join-loop-i-preserved-then-same
-all_join-loop-i-preserved-then-same t c = record {
-  path = c.loop-i.invariant.path;
-  going = going_same c.args.self.now.gamma.now c.args.self.now.hyps.now.all c.args.op c.args.path.now.items c.args.args.now c.args.others.now
-      (plain_uses c.args.uses.now.items) (plain_uses c.loop-i.uses.items) c.loop-i.i c.index-args-i.result c.index-others-i.result c.loop-i.invariant.going c.loop-i-test.true c.index-args-i.is
-      c.index-others-i.is (c.same.ensures.0 c.if-same.true);
+pub all_join-loop-i-init : goal.all_join-loop-i-init
+all_join-loop-i-init t c = record {
+  path = refl;
+  less = omega arith;
+  same = refl;
+  going = going_start (normaliser_of c.args.reducer.now) c.args.self.now.gamma.now c.args.self.now.hyps.now.all c.args.op c.args.path.now.items c.args.args.now c.args.others.now
+      (plain_uses c.args.uses.now.items) c.args.budget.now;
 }
 
-pub all_join-returns-then-not-has_place-clause-exact : goal.all_join-returns-then-not-has_place-clause-exact
-all_join-returns-then-not-has_place-clause-exact t c =
-    going_no_place c.args.self.now.gamma.now c.args.self.now.hyps.now.all c.args.op c.args.path.now.items c.args.args.now c.args.others.now
-    (plain_uses c.args.uses.now.items) (plain_uses c.loop-i.uses.items) c.loop-i.i c.index-args-i.result c.index-others-i.result c.loop-i.invariant.going c.loop-i-test.true c.index-args-i.is
-    c.index-others-i.is
-    (not_same c.same.result c.index-args-i.result c.index-others-i.result c.same.ensures c.if-same.false) (sym c.has_place.ensures ∙ c.if-not-has_place.true)
+pub all_join-returns-then-i-others-clause-exact : goal.all_join-returns-then-i-others-clause-exact
+all_join-returns-then-i-others-clause-exact t c =
+    going_short (normaliser_of c.args.reducer.now) c.args.self.now.gamma.now c.args.self.now.hyps.now.all c.args.op c.args.path.now.items c.args.args.now c.args.others.now
+    (plain_uses c.args.uses.now.items) (plain_uses c.loop-i.uses.items) c.args.budget.now c.loop-i.i c.loop-i.budget c.loop-i.invariant.going c.loop-i-test.true c.if-i-others.true
 
 pub all_join-joins_at-requires : goal.all_join-joins_at-requires
 all_join-joins_at-requires t c =
     omega (arith, depth_at c.args.args.now c.loop-i.i c.index-args-i.result c.loop-i-test.true c.index-args-i.is)
 
-pub all_join-returns-then-not-branch-clause-exact : goal.all_join-returns-then-not-branch-clause-exact
-all_join-returns-then-not-branch-clause-exact t c =
-    let j = rw (c.if-not-branch.true, c.loop-i.invariant.path) at c.in_ok-joins_at.ensures.exact in
-    going_none c.args.self.now.gamma.now c.args.self.now.hyps.now.all c.args.op c.args.path.now.items c.args.args.now c.args.others.now
-    (plain_uses c.args.uses.now.items) (plain_uses c.loop-i.uses.items) c.loop-i.i c.index-args-i.result c.index-others-i.result c.loop-i.invariant.going c.loop-i-test.true c.index-args-i.is
-    c.index-others-i.is
-    (not_same c.same.result c.index-args-i.result c.index-others-i.result c.same.ensures c.if-same.false) (sym c.has_place.ensures ∙ c.if-not-has_place.false) j
+pub all_join-returns-in-Err-clause-exact : goal.all_join-returns-in-Err-clause-exact
+all_join-returns-in-Err-clause-exact t c =
+    let i = c.loop-i.invariant in
+    going_hindered (normaliser_of c.args.reducer.now) c.args.self.now.gamma.now c.args.self.now.hyps.now.all c.args.op c.args.path.now.items c.args.args.now c.args.others.now
+    (plain_uses c.args.uses.now.items) (plain_uses c.loop-i.uses.items) c.args.budget.now c.loop-i.i c.loop-i.budget c.joins_at.new.budget c.index-args-i.result c.index-others-i.result
+    c.in-Err.fault i.going c.loop-i-test.true (omega (arith, c.if-i-others.false)) c.index-args-i.is c.index-others-i.is (rw (i.same, i.path) at c.in-Err.ensures.exact)
+
+pub all_join-returns-then-not-joins-clause-exact : goal.all_join-returns-then-not-joins-clause-exact
+all_join-returns-then-not-joins-clause-exact t c =
+    let i = c.loop-i.invariant in
+    going_none (normaliser_of c.args.reducer.now) c.args.self.now.gamma.now c.args.self.now.hyps.now.all c.args.op c.args.path.now.items c.args.args.now c.args.others.now
+    (plain_uses c.args.uses.now.items) (plain_uses c.loop-i.uses.items) c.args.budget.now c.loop-i.i c.loop-i.budget c.joins_at.new.budget c.index-args-i.result c.index-others-i.result
+    i.going c.loop-i-test.true (omega (arith, c.if-i-others.false)) c.index-args-i.is c.index-others-i.is (rw (c.if-not-joins.true, i.same, i.path) at c.in-Ok.ensures.exact)
 
 pub all_join-loop-i-preserved : goal.all_join-loop-i-preserved
 all_join-loop-i-preserved t c =
-    let j = rw (c.if-not-branch.false, c.loop-i.invariant.path) at c.in_ok-joins_at.ensures.exact in
+    let i = c.loop-i.invariant in
     record {
-      path = c.in_ok-joins_at.ensures.path ∙ c.loop-i.invariant.path;
-      going = going_on c.args.self.now.gamma.now c.args.self.now.hyps.now.all c.args.op c.args.path.now.items c.args.args.now c.args.others.now
-          (plain_uses c.args.uses.now.items) (plain_uses c.loop-i.uses.items) (plain_uses c.joins_at.new.uses.items) c.loop-i.i c.index-args-i.result c.index-others-i.result c.loop-i.invariant.going c.loop-i-test.true c.index-args-i.is
-          c.index-others-i.is
-          (not_same c.same.result c.index-args-i.result c.index-others-i.result c.same.ensures c.if-same.false) (sym c.has_place.ensures ∙ c.if-not-has_place.false) j;
+      path = c.in-Ok.ensures.path ∙ i.path;
+      less = omega (arith, i.less, c.joins_at.ensures.less);
+      same = c.joins_at.ensures.same ∙ i.same;
+      going = going_on (normaliser_of c.args.reducer.now) c.args.self.now.gamma.now c.args.self.now.hyps.now.all c.args.op c.args.path.now.items c.args.args.now c.args.others.now
+          (plain_uses c.args.uses.now.items) (plain_uses c.loop-i.uses.items) (plain_uses c.joins_at.new.uses.items) c.args.budget.now c.loop-i.i c.loop-i.budget c.joins_at.new.budget
+          c.index-args-i.result c.index-others-i.result i.going c.loop-i-test.true (omega (arith, c.if-i-others.false)) c.index-args-i.is c.index-others-i.is
+          (rw (c.if-not-joins.false, i.same, i.path) at c.in-Ok.ensures.exact);
     }
+
+pub all_join-returns-clause-exact : goal.all_join-returns-clause-exact
+all_join-returns-clause-exact t c =
+    let i = c.loop-i.invariant in
+    going_end (normaliser_of c.args.reducer.now) c.args.self.now.gamma.now c.args.self.now.hyps.now.all c.args.op c.args.path.now.items c.args.args.now c.args.others.now
+    (plain_uses c.args.uses.now.items) (plain_uses c.loop-i.uses.items) c.args.budget.now c.loop-i.i c.loop-i.budget _ i.going (omega (arith, c.loop-i-test.false)) refl
+
+-- ---- one argument
+
+pub joins_at-returns-then-same-clause-exact : goal.joins_at-returns-then-same-clause-exact
+joins_at-returns-then-same-clause-exact t c = (
+  [],
+  ap (λ v. beside_alone v (is_place c.args.self.now.gamma.now c.args.op c.args.i)
+      (joined_trying (normaliser_of c.args.reducer.now) c.args.self.now.gamma.now c.args.self.now.hyps.now.all (c.args.path.now.items ++ c.args.i ∷ []) c.args.arg.now c.args.other.now)
+      c.args.budget.now) (is_same_at c.args.arg.now c.args.other.now (c.same.ensures.0 c.if-same.true)),
+  sym (nil_right (plain_uses c.args.uses.now.items)),
+)
+
+pub joins_at-returns-then-not-has_place-clause-exact : goal.joins_at-returns-then-not-has_place-clause-exact
+joins_at-returns-then-not-has_place-clause-exact t c =
+    beside_not (is_same c.args.arg.now c.args.other.now) (is_place c.args.self.now.gamma.now c.args.op c.args.i)
+    (joined_trying (normaliser_of c.args.reducer.now) c.args.self.now.gamma.now c.args.self.now.hyps.now.all (c.args.path.now.items ++ c.args.i ∷ []) c.args.arg.now c.args.other.now)
+    c.args.budget.now (not_same c.same.result c.args.arg.now c.args.other.now c.same.ensures c.if-same.false) (sym c.has_place.ensures ∙ c.if-not-has_place.true)
+
+pub joins_at-returns-clause-exact : goal.joins_at-returns-clause-exact
+joins_at-returns-clause-exact t c =
+    let same =
+    beside_joins (is_same c.args.arg.now c.args.other.now) (is_place c.args.self.now.gamma.now c.args.op c.args.i)
+    (joined_trying (normaliser_of c.args.reducer.now) c.args.self.now.gamma.now c.args.self.now.hyps.now.all (c.args.path.now.items ++ c.args.i ∷ []) c.args.arg.now c.args.other.now)
+    c.args.budget.now (not_same c.same.result c.args.arg.now c.args.other.now c.same.ensures c.if-same.false) (sym c.has_place.ensures ∙ c.if-not-has_place.false) in
+    rw same (rw c.in_ok-push.ensures.ok at c.joins-joins.ensures.exact)

@@ -1,5 +1,6 @@
-use Rattle.std.proofs.Common.{◌≡◌, ◌+◌, ◌*◌}
+use Rattle.std.proofs.Common.{◌≡◌, ◌≤◌, ◌+◌, ◌*◌}
 use Rattle.circ_term.specs.Tree.{trees_of, depth_of, depths_of}
+use Rattle.circ_join.specs.Trying.{normaliser_of}
 use Rattle.circ_join.specs.Uses.{plain_uses}
 use Rattle.circ_join.proofs.Joins.{Going}
 use Rattle.circ_join.proofs.joining.Joining.+join.Given as goal
@@ -18,6 +19,8 @@ decreases-joins_at l = 4 * depth_of l.arg.now + 4
 
 abbrev pub invariant-all_join-loop-i : goal.invariant-all_join-loop-i
 invariant-all_join-loop-i l = record {
-  path : l.path.items ≡ l.fn.path.items;
-  going : Going l.self.gamma.now l.self.hyps.now.all l.op l.fn.path.items l.args l.others (plain_uses l.fn.uses.items) (plain_uses l.uses.items) l.i;
+  path : l.path.items ≡ l.initial.path.items;
+  less : l.budget ≤ l.initial.budget;
+  same : l.reducer ≡ l.initial.reducer;
+  going : Going (normaliser_of l.initial.reducer) l.self.gamma.now l.self.hyps.now.all l.op l.initial.path.items l.args l.others (plain_uses l.initial.uses.items) (plain_uses l.uses.items) l.initial.budget l.i l.budget;
 }

@@ -1,7 +1,8 @@
-use Rattle.std.proofs.Common.{◌≡◌, ◌+◌, ◌*◌, ◌++◌, drop}
+use Rattle.std.proofs.Common.{◌≡◌, ◌≤◌, ◌+◌, ◌*◌}
 use Rattle.circ_term.specs.Tree.{trees_of, depth_of, depths_of}
-use Rattle.circ_plain_search.specs.Joining.{all_swept}
-use Rattle.circ_join.specs.Uses.{plain_lemma_uses}
+use Rattle.circ_join.specs.Sweeping.{plain_swept}
+use Rattle.circ_join.specs.Trying.{normaliser_of}
+use Rattle.circ_join.proofs.Sweeps.{row_at}
 use Rattle.circ_join.proofs.passing.Passing.+sweep.Given as goal
 
 abbrev pub decreases-sweep : goal.decreases-sweep
@@ -15,7 +16,10 @@ decreases-sweep_at l = 3 * depth_of l.arg.now + 1
 
 abbrev pub invariant-sweep_all-loop-i : goal.invariant-sweep_all-loop-i
 invariant-sweep_all-loop-i l = record {
-  path : l.path.items ≡ l.fn.path.items;
-  swept : plain_lemma_uses l.uses.items ++ all_swept l.self.gamma.now l.self.lemmas.now l.op l.fn.path.items l.i (trees_of (drop l.i l.args))
-      ≡ plain_lemma_uses l.fn.uses.items ++ all_swept l.self.gamma.now l.self.lemmas.now l.op l.fn.path.items 0 (trees_of l.args);
+  path : l.path.items ≡ l.initial.path.items;
+  less : l.budget ≤ l.initial.budget;
+  same : l.reducer ≡ l.initial.reducer;
+  goes :
+      row_at (normaliser_of l.initial.reducer) l.self.gamma.now l.self.lemmas.now l.op l.initial.path.items l.args 0 (plain_swept l.initial.swept) l.initial.budget
+      ≡ row_at (normaliser_of l.initial.reducer) l.self.gamma.now l.self.lemmas.now l.op l.initial.path.items l.args l.i (plain_swept l.swept) l.budget;
 }

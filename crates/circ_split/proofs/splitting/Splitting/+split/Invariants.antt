@@ -1,6 +1,6 @@
 use Rattle.std.proofs.Common.{◌≡◌, ◌+◌, ◌*◌, ◌≤◌, drop, map}
 use Rattle.circ_theory.specs.Pairs.{plain_pair}
-use Rattle.circ_plain_search.specs.Search.{each_case, split_cases}
+use Rattle.circ_conditional_search.specs.Search.{each_case_trying, split_cases_trying}
 use Rattle.circ_split.proofs.Splits.{Rest}
 use Rattle.circ_split.proofs.splitting.Splitting.+split.Given as goal
 
@@ -21,12 +21,12 @@ decreases-sides_reason l = 5 * l.room + 1
 
 abbrev pub invariant-each_case-loop-i : goal.invariant-each_case-loop-i
 invariant-each_case-loop-i l = record {
-  theory : l.memo.theory ≡ l.fn.memo.theory;
-  rules : l.memo.rules ≡ l.fn.memo.rules;
+  theory : l.reducer.theory ≡ l.fn.reducer.theory;
+  rules : l.reducer.rules ≡ l.fn.reducer.rules;
   less : l.budget ≤ l.fn.budget;
   same : l.assumptions.items ≡ l.fn.assumptions.items;
   rest : Rest
-      (each_case l.self.theory.now l.fn.memo.rules (split_cases l.self.theory.now l.fn.memo.rules l.room) (map plain_pair l.fn.assumptions.items) l.split.term.now l.split.left.now l.split.right.now l.constants l.fn.budget)
-      (each_case l.self.theory.now l.fn.memo.rules (split_cases l.self.theory.now l.fn.memo.rules l.room) (map plain_pair l.fn.assumptions.items) l.split.term.now l.split.left.now l.split.right.now (drop l.i l.constants) l.budget)
+      (each_case_trying l.self.theory.now l.fn.reducer.rules (split_cases_trying l.self.theory.now l.fn.reducer.rules l.room) (map plain_pair l.fn.assumptions.items) l.split.term.now l.split.left.now l.split.right.now l.constants l.fn.budget)
+      (each_case_trying l.self.theory.now l.fn.reducer.rules (split_cases_trying l.self.theory.now l.fn.reducer.rules l.room) (map plain_pair l.fn.assumptions.items) l.split.term.now l.split.left.now l.split.right.now (drop l.i l.constants) l.budget)
       l.whys.items;
 }

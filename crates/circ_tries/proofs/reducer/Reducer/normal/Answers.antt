@@ -13,7 +13,7 @@ returns-clause-exact c = elim c.match-self.branch [
       let same : w.in-Plain.memo ≡ c.args.self.now = ap rewriting_by (sym w.in-Plain.is) ∙ c.self.view_is in
       rw (w.result-is, w.budget-is)
       (subst (λ (q : Rewriting). Answers w.normal.result w.normal.new.budget (conditional_norm c.args.tries q.theory.signature q.rules q.assumptions c.args.budget.now c.args.term.now)) same
-      (normal_untried w.in-Plain.memo (rw w.in-Plain.is at c.self.invariant) c.args.tries c.args.budget.now w.normal.new.budget c.args.term.now w.normal.result w.normal.ensures.exact))
+      (normal_untried w.in-Plain.memo (rw w.in-Plain.is at c.self.invariant.right) c.args.tries c.args.budget.now w.normal.new.budget c.args.term.now w.normal.result w.normal.ensures.exact))
   | in-Tried w ↦
       let same : w.in-Tried.trying ≡ c.args.self.now = ap rewriting_by (sym w.in-Tried.is) ∙ c.self.view_is in
       rw (w.result-is, w.budget-is)

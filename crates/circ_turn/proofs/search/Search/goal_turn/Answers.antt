@@ -1,10 +1,13 @@
-use Rattle.std.proofs.Common.{◌≡◌, ◌∷◌, List, drop}
+use Rattle.std.proofs.Common.{◌≡◌, ◌∷◌, List, drop, sym, subst, refl}
 use Rattle.circ_term.proofs.Within.{drop_read}
+use Rattle.circ_theory.specs.Theory.{Pair, goal as goal_with}
 use Rattle.circ_theory.specs.declared.parts.Goal.{Goal}
-use Rattle.circ_plain_search.specs.Search.{goal_turn, sides_with, Sides}
+use Rattle.circ_plain_search.specs.Search.{sides_with, Sides}
+use Rattle.circ_conditional_search.specs.Coming.{IsReadyTrying}
+use Rattle.circ_conditional_search.specs.Search.{goal_turn_trying}
 use Rattle.circ_proof.specs.Plain.{plain_chain}
 use Rattle.circ_turn.specs.Ending.{GoesTo, EndsAs}
-use Rattle.circ_turn.specs.Standing.{standing, plain_limits}
+use Rattle.circ_turn.specs.Standing.{standing, plain_limits, manner_of}
 use Rattle.circ_turn.proofs.Turning.{each_front, goal_turn_goes, part_ends}
 use Rattle.circ_turn.proofs.search.Search.goal_turn.Goals as goal
 
@@ -12,26 +15,28 @@ pub normal_turn-requires-clause-ready : goal.normal_turn-requires-clause-ready
 normal_turn-requires-clause-ready c =
     let Q : List Goal = c.args.state.now.queue.items in
     let front : Q ≡ c.in-Some.hand.now ∷ drop 1 Q = drop_read Q 0 c.in-Some.hand.now c.in-Some.ensures.item.3.0 c.in-Some.ensures.lookup in
-    let h = rw (c.in-Ok.is, c.requires.rules.plain) at c.normal_sides.ensures.exact in
-    c.requires.ready c.in-Some.hand.now (drop 1 Q) (sides_with c.in-Ok.sides.left c.in-Ok.sides.right (plain_chain c.in-Ok.sides.chain) c.normal_sides.new.budget) front h
+    let h = rw c.in-Ok.is at (c.normal_goal.ensures.exact c.args.state.now.hyps.earlier c.requires.rules) in
+    let n : Sides = sides_with c.in-Ok.goal.left c.in-Ok.goal.right (plain_chain c.in-Ok.chain) c.normal_goal.new.budget in
+    let P : List Pair → Type 0 = λ A. IsReadyTrying c.args.self.now.theory.now (goal_with A c.in-Ok.goal.left c.in-Ok.goal.right) in
+    subst P (sym h.0) (c.requires.ready c.in-Some.hand.now (drop 1 Q) n front h.1)
 
 pub returns-in-Err-clause-exact : goal.returns-in-Err-clause-exact
 returns-in-Err-clause-exact c =
     let Q : List Goal = c.args.state.now.queue.items in
     let front : Q ≡ c.in-Some.hand.now ∷ drop 1 Q = drop_read Q 0 c.in-Some.hand.now c.in-Some.ensures.item.3.0 c.in-Some.ensures.lookup in
-    let h = rw (c.in-Err.is, c.requires.rules.plain) at c.normal_sides.ensures.exact in
+    let h = rw c.in-Err.is at (c.normal_goal.ensures.exact c.args.state.now.hyps.earlier c.requires.rules) in
     each_front Q c.in-Some.hand.now
-    (λ g rest. EndsAs (goal_turn c.args.self.now.theory.now c.args.self.now.gamma.now (plain_limits c.args.self.now.limits) (standing c.args.state.now) g rest) c.end.result) front
+    (λ g rest. EndsAs (goal_turn_trying c.args.self.now.theory.now c.args.self.now.gamma.now (manner_of c.args.self.now) (standing c.args.state.now) g rest) c.end.result) front
     (rw c.end.ensures (part_ends (plain_limits c.args.self.now.limits) (standing c.args.state.now) c.in-Err.stop _ _ h))
 
 pub returns-in-Ok-clause-exact : goal.returns-in-Ok-clause-exact
 returns-in-Ok-clause-exact c =
     let Q : List Goal = c.args.state.now.queue.items in
     let front : Q ≡ c.in-Some.hand.now ∷ drop 1 Q = drop_read Q 0 c.in-Some.hand.now c.in-Some.ensures.item.3.0 c.in-Some.ensures.lookup in
-    let h = rw (c.in-Ok.is, c.requires.rules.plain) at c.normal_sides.ensures.exact in
-    let n : Sides = sides_with c.in-Ok.sides.left c.in-Ok.sides.right (plain_chain c.in-Ok.sides.chain) c.normal_sides.new.budget in
+    let h = rw c.in-Ok.is at (c.normal_goal.ensures.exact c.args.state.now.hyps.earlier c.requires.rules) in
+    let n : Sides = sides_with c.in-Ok.goal.left c.in-Ok.goal.right (plain_chain c.in-Ok.chain) c.normal_goal.new.budget in
     each_front Q c.in-Some.hand.now
-    (λ g rest. GoesTo (goal_turn c.args.self.now.theory.now c.args.self.now.gamma.now (plain_limits c.args.self.now.limits) (standing c.args.state.now) g rest) (standing c.normal_turn.new.state)
-    c.normal_turn.result) front
-    (goal_turn_goes c.args.self.now.theory.now c.args.self.now.gamma.now (plain_limits c.args.self.now.limits) (standing c.args.state.now) c.in-Some.hand.now (drop 1 Q) n
-    (standing c.normal_turn.new.state) c.normal_turn.result h c.normal_turn.ensures.exact)
+    (λ g rest. GoesTo (goal_turn_trying c.args.self.now.theory.now c.args.self.now.gamma.now (manner_of c.args.self.now) (standing c.args.state.now) g rest)
+    (standing c.normal_turn.new.state) c.normal_turn.result) front
+    (goal_turn_goes c.args.self.now.theory.now c.args.self.now.gamma.now (manner_of c.args.self.now) (standing c.args.state.now) c.in-Some.hand.now (drop 1 Q) c.in-Ok.goal n
+    (standing c.normal_turn.new.state) c.normal_turn.result h.1 h.0 refl refl c.normal_turn.ensures.exact)

@@ -1,9 +1,0 @@
-use Rattle.std.proofs.Common.{◌≡◌, ◌+◌, length, min}
-use Rattle.circ_expand.specs.Tasks.{left_of}
-use Rattle.circ_expand.proofs.calls.Frame.run.Given as goal
-
-abbrev pub invariant-loop-work : goal.invariant-loop-work
-invariant-loop-work l = left_of l.self l.fn.work ≡ left_of l.self l.work
-
-abbrev pub decreases-loop-work : goal.decreases-loop-work
-decreases-loop-work l = l.work.left + min 1 (length l.work.tasks.items)

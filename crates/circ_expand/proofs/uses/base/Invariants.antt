@@ -1,8 +1,0 @@
-use Rattle.std.proofs.Common.{◌≡◌, ◌++◌, drop}
-use Rattle.circ_expand.specs.Expand.{holes}
-use Rattle.circ_expand.specs.Uses.{entries_of}
-use Rattle.circ_expand.proofs.uses.base.Given as goal
-
-abbrev pub invariant-loop-entry : goal.invariant-loop-entry
-invariant-loop-entry l =
-    l.whole.items ++ holes (entries_of l.theory (drop l.entry-index l.entries)) ≡ l.path ++ holes (entries_of l.theory l.entries)

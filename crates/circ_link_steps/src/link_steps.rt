@@ -1,0 +1,389 @@
+//! The steps of the links of a side.
+ghost use Rattle.std.specs.Prelude.{◌≡◌, ◌∷◌, [], ◌++◌, ◌+◌, IfOk, List, map, unwrap_or};
+ghost use Rattle.circ_term.specs.Tree.{at, sort_of, trees_of};
+ghost use Rattle.circ_term.specs.Subst.{BuildsAll};
+ghost use Rattle.circ_term.specs.Substitution.{instance, instances};
+ghost use Rattle.circ_theory.specs.Rewriting.{named, by_terms};
+ghost use Rattle.circ_expansion.specs.Followed.{goal_in};
+ghost use Rattle.circ_expansion.specs.Pieces.{Pieces, Equation_piece, Assumption_piece, Content_piece};
+ghost use Rattle.circ_proof.specs.Plain.{plain_link};
+ghost use Rattle.circ_proof.specs.Link.{resolved_link};
+ghost use Rattle.circ_expansion.specs.Expand.{base, bounds_of, counted, all_tested, around, start_of};
+ghost use Rattle.circ_expansion.specs.Expand.{stood};
+ghost use Rattle.circ_expansion.specs.Machine.{Value, In_row};
+ghost use Rattle.circ_written.specs.Nodes.{IsLink, piece_of};
+ghost use Rattle.circ_uses.specs.Valuations.{by_of};
+ghost use Rattle.circ_tasks.specs.Tasks.{call_of, basis_of, target_of, background_in, links_job};
+ghost use Rattle.circ_written.specs.Values.{values_of};
+ghost use Rattle.circ_tasks.specs.Tasks.{Steps, stepped, linked, used, hypothesised, link_goes};
+
+use crate::bounds::bounds_of;
+use circ_proof::Link;
+use circ_tasks::{Call, Frame, Halt, Links, Target, Task, Work, all_named, named};
+use circ_term::{Term, TermFault};
+use circ_theory::Way;
+use circ_uses::{By, Front, add_places, given, variables_in};
+use circ_written::Row;
+use std::alloc::AllocError;
+use std::rc::Rc;
+
+// How a hypothesis is used in a link.
+#[derive(Clone, Copy)]
+struct Used<'b> {
+    number: u32,
+    way: Way,
+    path: &'b [u16],
+    terms: &'b [u32],
+}
+
+/// The next link of a side. They end where the last row ends.
+pub fn links_step<'a>(
+    frame: &Frame<'a, '_>,
+    work: &mut Work<'a>,
+    links: Links<'a>,
+) -> Result<(), Halt>
+    ensures { Steps frame.now (stepped frame.now (links_job frame.now links.entry) work.old)
+        work.new result }
+{
+    if !work.values.ends_in_row() {
+        return Err(Halt::Stopped);
+    }
+    let Some((link, rest)) = links.links.split_first() else {
+        return Ok(());
+    };
+    let next = match (&*frame).side(&links.basis).led(link, &links.term) {
+        Ok(next) => next,
+        Err(fault) => return Err(Halt::Past(fault)),
+    };
+    let more = Links {
+        call: links.call,
+        basis: links.basis,
+        links: rest,
+        term: next,
+    };
+    link_step(frame, work, link, &links.term, more)
+}
+
+// A link, after which these are left.
+fn link_step<'a>(
+    frame: &Frame<'a, '_>,
+    work: &mut Work<'a>,
+    link: &Link,
+    term: &Term,
+    more: Links<'a>,
+) -> Result<(), Halt>
+    ensures { (v : Pieces) (us : List Value) → (values_of work.old.values) ≡ In_row v ∷ us →
+        Steps frame.now (link_goes frame.now work.old term.now more.entry
+        (resolved_link frame.now.table.now (plain_link link.now)) v us) work.new result }
+{
+    match link {
+        Link::Hypothesis {
+            number,
+            way,
+            path,
+            terms,
+            ..
+        } => {
+            let used = Used {
+                number: *number,
+                way: *way,
+                path: path.as_slice(),
+                terms: terms.as_slice(),
+            };
+            hypothesis_step(frame, work, term, more, used)
+        }
+        Link::Equation {
+            number,
+            way,
+            path,
+            terms,
+            ..
+        } => equation_step(
+            frame,
+            work,
+            more,
+            *number,
+            *way,
+            path.as_slice(),
+            terms.as_slice(),
+        ),
+        Link::Assumption { number, way, path } => {
+            assumption_step(frame, work, more, *number, *way, path.as_slice())
+        }
+        Link::Content {
+            op,
+            path,
+            term: new,
+        } => { content_step(frame, work, term, more, *op, path.as_slice(), *new) }
+    }
+}
+
+// A link by an equation.
+fn equation_step<'a>(
+    frame: &Frame<'a, '_>,
+    work: &mut Work<'a>,
+    more: Links<'a>,
+    number: u32,
+    way: Way,
+    path: &[u16],
+    terms: &[u32],
+) -> Result<(), Halt>
+    ensures { (v : Pieces) (us : List Value) → (values_of work.old.values) ≡ In_row v ∷ us →
+        Steps frame.now (counted work.old.left (linked frame.now work.old more.entry
+        (map (instance (by_of more.entry.call.value.by.value))
+        (map (named frame.now.table.now) terms.now))
+        (Equation_piece number way (base (call_of frame.now more.entry.call.value) ++ path.now)
+        (map (instance (by_of more.entry.call.value.by.value))
+        (map (named frame.now.table.now) terms.now))) v us)) work.new result }
+{
+    if work.left == 0 {
+        return Err(Halt::Long);
+    }
+    work.left -= 1;
+    match instances(frame, &more.call, terms) {
+        Ok(terms) => {
+            let path = frame.path_below(&more.call, path)?;
+            let row = Row::Equation {
+                number,
+                way,
+                path,
+                terms,
+            };
+            write(frame, work, more, row)
+        }
+        Err(fault) => Err(Halt::Past(fault)),
+    }
+}
+
+// A link by an assumption.
+fn assumption_step<'a>(
+    frame: &Frame<'a, '_>,
+    work: &mut Work<'a>,
+    more: Links<'a>,
+    number: u32,
+    way: Way,
+    path: &[u16],
+) -> Result<(), Halt>
+    ensures { (v : Pieces) (us : List Value) → (values_of work.old.values) ≡ In_row v ∷ us →
+        Steps frame.now (counted work.old.left (linked frame.now work.old more.entry []
+        (Assumption_piece (more.entry.basis.value.raised + number) way
+        (base (call_of frame.now more.entry.call.value) ++ path.now)) v us)) work.new result }
+{
+    if work.left == 0 {
+        return Err(Halt::Long);
+    }
+    work.left -= 1;
+    let number = more.basis.raised as u64 + number as u64;
+    let path = frame.path_below(&more.call, path)?;
+    write(frame, work, more, Row::Assumption { number, way, path })
+}
+
+// A link by content: what stands at its path becomes another term.
+fn content_step<'a>(
+    frame: &Frame<'a, '_>,
+    work: &mut Work<'a>,
+    term: &Term,
+    more: Links<'a>,
+    op: u32,
+    path: &[u16],
+    new: u32,
+) -> Result<(), Halt>
+    ensures { (v : Pieces) (us : List Value) → (values_of work.old.values) ≡ In_row v ∷ us →
+        Steps frame.now (counted work.old.left (linked frame.now work.old more.entry
+        (instance (by_of more.entry.call.value.by.value) (named frame.now.table.now new) ∷ [])
+        (Content_piece op (base (call_of frame.now more.entry.call.value) ++ path.now)
+        (unwrap_or (at term.now path.now) term.now) (named frame.now.table.now new)
+        (bounds_of (by_of more.entry.call.value.by.value)
+        (unwrap_or (at term.now path.now) term.now) (named frame.now.table.now new)))
+        v us)) work.new result }
+{
+    if work.left == 0 {
+        return Err(Halt::Long);
+    }
+    work.left -= 1;
+    let new = named(frame.table, new)?;
+    match more.call.by.apply(frame.alloc, &new) {
+        Ok(_) => {
+            let old = part(term, path)?;
+            let by = bounds_of(frame.alloc, &more.call.by, &old, &new)?;
+            let path = frame.path_below(&more.call, path)?;
+            let row = Row::Content {
+                op,
+                path,
+                old,
+                new,
+                by,
+            };
+            write(frame, work, more, row)
+        }
+        Err(fault) => Err(Halt::Past(fault)),
+    }
+}
+
+// The whole term to which a link leads is tested, the row is written, and the other links
+// come next.
+fn write<'a>(
+    frame: &Frame<'a, '_>,
+    work: &mut Work<'a>,
+    more: Links<'a>,
+    row: Row,
+) -> Result<(), Halt>
+    requires { IsLink row }
+    ensures { (v : Pieces) (us : List Value) → (values_of work.old.values) ≡ In_row v ∷ us →
+        Steps frame.now (linked frame.now work.old more.entry [] (piece_of row) v us
+        work.old.left) work.new result }
+{
+    match frame.around(&more.call, &more.term) {
+        Ok(_) => {
+            if work.values.add_row(row)? {
+                work.tasks.push(Task::Links(more))?;
+                return Ok(());
+            }
+            Err(Halt::Stopped)
+        }
+        Err(fault) => Err(Halt::Past(fault)),
+    }
+}
+
+// The instances of the terms with these numbers.
+fn instances(frame: &Frame<'_, '_>, call: &Call, terms: &[u32]) -> Result<Vec<Term>, TermFault>
+    ensures { BuildsAll (λ v. v.items) result (instances (by_of call.now.by.value)
+        (trees_of (map (named frame.now.table.now) terms.now))) }
+{
+    let terms = all_named(frame.alloc, frame.table, terms)?;
+    call.by.apply_all(frame.alloc, terms.as_slice())
+}
+
+// A link by a hypothesis: what stands there and the whole term are made before the unit.
+fn hypothesis_step<'a>(
+    frame: &Frame<'a, '_>,
+    work: &mut Work<'a>,
+    term: &Term,
+    more: Links<'a>,
+    used: Used<'_>,
+) -> Result<(), Halt>
+    ensures { Steps frame.now (all_tested
+        (stood (call_of frame.now more.entry.call.value) term.now)
+        (counted work.old.left (hypothesised frame.now work.old more.entry
+        used.entry.number used.entry.way used.entry.path.now
+        (map (named frame.now.table.now) used.entry.terms.now)
+        (instance (by_of more.entry.call.value.by.value) term.now)
+        (around (call_of frame.now more.entry.call.value) term.now)))) work.new result }
+{
+    match more.call.by.apply(frame.alloc, term) {
+        Ok(standing) => match frame.whole_with(&more.call, &standing) {
+            Ok(before) => use_hypothesis(frame, work, more, used, &standing, before),
+            Err(fault) => Err(Halt::Past(fault)),
+        },
+        Err(fault) => Err(Halt::Past(fault)),
+    }
+}
+
+// A use of a hypothesis goes behind the last row in the link's way.
+fn use_hypothesis<'a>(
+    frame: &Frame<'a, '_>,
+    work: &mut Work<'a>,
+    more: Links<'a>,
+    used: Used<'_>,
+    standing: &Term,
+    before: Term,
+) -> Result<(), Halt>
+    ensures { Steps frame.now (counted work.old.left (hypothesised frame.now work.old more.entry
+        used.entry.number used.entry.way used.entry.path.now
+        (map (named frame.now.table.now) used.entry.terms.now) standing.now before))
+        work.new result }
+{
+    if work.left == 0 {
+        return Err(Halt::Long);
+    }
+    work.left -= 1;
+    let terms = match instances(frame, &more.call, used.terms) {
+        Ok(terms) => terms,
+        Err(fault) => return Err(Halt::Past(fault)),
+    };
+    let after = match frame.around(&more.call, &more.term) {
+        Ok(after) => after,
+        Err(fault) => return Err(Halt::Past(fault)),
+    };
+    let whole = start_of(used.way, before, after);
+    let target = frame.hypothesis(&more.basis, used.number);
+    let by = given_by(frame, target, terms.as_slice())?;
+    let call = hypothesis_call(frame, &more.call, target, whole, standing, used.path, by)?;
+    work.tasks.push(Task::Links(more))?;
+    work.tasks.push(Task::PutBehind(used.way))?;
+    work.tasks.push(Task::EnterUse(call))?;
+    Ok(())
+}
+
+// The substitution of a hypothesis: terms for its variables in order.
+fn given_by(frame: &Frame<'_, '_>, target: Target, terms: &[Term]) -> Result<Rc<By>, AllocError>
+    ensures { IfOk result (λ b. by_of b.value ≡
+        by_terms (goal_in (target_of frame.now target).history) terms.now) }
+{
+    let variables = variables_in(frame.alloc, frame.goal(target))?;
+    let values = given(frame.alloc, &variables, terms)?;
+    let by = By::of(frame.alloc, values)?;
+    Ok(Rc::new(frame.alloc, by)?)
+}
+
+// The use of a hypothesis in this whole term: of hidden sort along the places of its path, of
+// visible sort at its path with no experiment.
+fn hypothesis_call(
+    frame: &Frame<'_, '_>,
+    call: &Call,
+    goal: Target,
+    whole: Term,
+    standing: &Term,
+    path: &[u16],
+    by: Rc<By>,
+) -> Result<Rc<Call>, AllocError>
+    ensures { IfOk result (λ d. call_of frame.now d.value ≡
+        used (background_in frame.now) (call_of frame.now call.now) (target_of frame.now goal)
+        whole standing.now path.now (by_of by.value)) }
+{
+    let mut next = call.share()?;
+    next.whole = whole;
+    next.goal = goal;
+    next.by = by;
+    if frame.theory.is_hidden(sort(frame, goal)) {
+        let mut layers = Vec::new(frame.alloc);
+        add_places(frame.alloc, standing, path, &mut layers)?;
+        next.along = Some(Front::of(frame.alloc, layers)?);
+        return Ok(Rc::new(frame.alloc, next)?);
+    }
+    let path = frame.below(call, path)?;
+    next.path = Rc::new(frame.alloc, path)?;
+    next.entries = Front::of(frame.alloc, Vec::new(frame.alloc))?;
+    next.along = None;
+    Ok(Rc::new(frame.alloc, next)?)
+}
+
+// The sort of a goal.
+fn sort(frame: &Frame<'_, '_>, goal: Target) -> u32
+    ensures { result ≡ sort_of (goal_in (target_of frame.now goal).history).left }
+{
+    match frame.goal(goal) {
+        Some(goal) => goal.left.sort(),
+        None => 0,
+    }
+}
+
+// Where the use of a hypothesis starts.
+fn start_of(way: Way, before: Term, after: Term) -> Term
+    ensures { result ≡ start_of way before after }
+{
+    match way {
+        Way::Forth => before,
+        Way::Back => after,
+    }
+}
+
+// The subterm at a path, or else the term itself.
+fn part(term: &Term, path: &[u16]) -> Result<Term, AllocError>
+    ensures { IfOk result (λ t. t ≡ unwrap_or (at term.now path.now) term.now) }
+{
+    match term.at(path) {
+        Some(part) => part.share(),
+        None => term.share(),
+    }
+}

@@ -1,0 +1,2 @@
+mod AtPlaces
+mod Chosen

@@ -1,0 +1,4 @@
+pub mod Staying
+mod Fronts
+mod Splitting
+mod Entering

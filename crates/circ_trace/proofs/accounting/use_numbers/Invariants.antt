@@ -1,7 +1,0 @@
-use Rattle.std.proofs.Common.{◌≡◌, ◌++◌, drop}
-use Rattle.circ_join.specs.Uses.{plain_uses}
-use Rattle.circ_trace.specs.Account.{numbers_of}
-use Rattle.circ_trace.proofs.accounting.use_numbers.Given as goal
-
-abbrev pub invariant-loop-one : goal.invariant-loop-one
-invariant-loop-one l = l.numbers.items ++ numbers_of (plain_uses (drop l.one-index l.uses)) ≡ numbers_of (plain_uses l.uses)

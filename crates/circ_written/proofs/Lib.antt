@@ -1,0 +1,3 @@
+mod Opened
+mod Ropes
+mod Stacked
