@@ -152,7 +152,8 @@ function wordsOf(button) {
 }
 
 function limits() {
-  return ['steps', 'derives'].flatMap(id => (at(id).value === '' ? [] : [`--${id}`, at(id).value]));
+  const given = ['steps', 'derives'].flatMap(id => (at(id).value === '' ? [] : [`--${id}`, at(id).value]));
+  return at('split').checked ? [...given, '--split'] : given;
 }
 
 async function run(words) {

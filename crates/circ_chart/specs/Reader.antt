@@ -56,9 +56,12 @@ RuleOver r w i j q = ByRule r.grammar.now r.tokens.now w.below w.sort i j q
 abbrev pub ArgumentsOver : Reader → Part → ℕ → ℕ → Trees → Type 0
 ArgumentsOver r p i j = Row r.grammar.now r.tokens.now (symbols_of p) i j
 
--- the rows of a part, of a last hole, and of a part whose first hole ends at m
+-- the rows of a part, of what is behind its first symbol, of a last hole, and of a part whose first hole ends at m
 abbrev pub RowsOver : Reader → Part → ℕ → ℕ → Tree → Type 0
 RowsOver r p i j = RowsOf r.grammar.now r.tokens.now p.rule.now.op p.rule.now.sort (symbols_of p) i j
+
+abbrev pub RestOver : Reader → Part → ℕ → ℕ → Tree → Type 0
+RestOver r p i j = RowsOf r.grammar.now r.tokens.now p.rule.now.op p.rule.now.sort (behind p) i j
 
 abbrev pub LastOver : Reader → Rule → Wanted → ℕ → ℕ → Tree → Type 0
 LastOver r q w i j = RowsOf r.grammar.now r.tokens.now q.op q.sort (Hole w.sort w.below ∷ []) i j

@@ -210,8 +210,26 @@ pub fn has_none(memo: &Memo, wanted: Wanted, from: usize, to: usize) -> bool
     }
 }
 
-/// Keeps an answer.
-pub fn keep(
+/// Keeps an answer, and gives it.
+pub fn kept(
+    alloc: Global,
+    memo: &mut Memo,
+    question: Question,
+    from: usize,
+    to: usize,
+    few: Few,
+) -> Result<Few, AllocError>
+    ensures same { IfOk result (λ v. v ≡ few) }
+    ensures kept { OnOk result ((g : Grammar) (ts : List ℕ) →
+        AreAnswers g ts memo.old.entries.items → IsAnswer g ts question from to few →
+        AreAnswers g ts memo.new.entries.items) }
+{
+    let copy = shared(&few)?;
+    keep(alloc, memo, question, from, to, copy)?;
+    Ok(few)
+}
+
+fn keep(
     alloc: Global,
     memo: &mut Memo,
     question: Question,

@@ -3,20 +3,20 @@ ghost use Rattle.std.specs.Prelude.{◌≡◌, ◌≤◌, ◌<◌, ◌+◌, ◌�
 ghost use Rattle.std.specs.Prelude.{IfOk, OnOk, IsTrue};
 ghost use Rattle.circ_term.specs.Tree.{Tree, Trees};
 ghost use Rattle.circ_spelling.specs.declared.grammar.Symbol.TheVariants.{Word};
-ghost use Rattle.circ_chart.specs.Few.{Or};
+ghost use Rattle.circ_chart.specs.Few.{Enough, Or};
 ghost use Rattle.circ_chart.specs.Members.{In, IsApart, KeepsTerms};
 ghost use Rattle.circ_spelling.specs.Words.{words};
 ghost use Rattle.circ_spelling.specs.Limits.{most_tokens};
 ghost use Rattle.circ_spelling.specs.Steps.{AreWords};
 ghost use Rattle.circ_chart.specs.Reader.{IsReady, IsPart, IsHole, symbols_of, behind};
 ghost use Rattle.circ_chart.specs.Reader.{TermsOver, ParenthesesOver, RulesOver};
-ghost use Rattle.circ_chart.specs.Reader.{RowsOver, LastOver, SplitOver, ArgumentsOver};
+ghost use Rattle.circ_chart.specs.Reader.{RowsOver, RestOver, LastOver, SplitOver, ArgumentsOver};
 
 use crate::asked::{Gap, Part};
-use crate::few::{Few, both, is_full, shared};
-use crate::memo::{Memo, Question, has_none, keep, recalled};
+use crate::few::{Few, both, is_full};
+use crate::memo::{Memo, Question, has_none, kept, recalled};
 use crate::places::{Tables, can_span, next_at, table_at};
-use crate::rows::{no_symbols, products};
+use crate::rows::{last_rows, no_symbols, products};
 use crate::variables::variables_over;
 use crate::{CLOSING, EVERY, OPENING};
 use circ_spelling::{Grammar, Rule, Starts, Step, Wanted, are_words, may_spell, step_at};
@@ -71,14 +71,12 @@ impl Reader<'_> {
             sort: wanted.sort,
             below: wanted.below,
         };
-        let kept = recalled(memo, question, from, to)?;
-        if let Some(few) = kept {
+        let known = recalled(memo, question, from, to)?;
+        if let Some(few) = known {
             return Ok(few);
         }
         let few = self.new_terms(memo, wanted, from, to)?;
-        let copy = shared(&few)?;
-        keep(self.alloc, memo, question, from, to, copy)?;
-        Ok(few)
+        Ok(kept(self.alloc, memo, question, from, to, few)?)
     }
 
     // Whether it is known that the range has no such terms.
@@ -317,11 +315,7 @@ impl Reader<'_> {
             return Ok(Few::Empty);
         }
         let found = self.terms(memo, wanted, from, to)?;
-        if let Few::Empty = found {
-            return Ok(Few::Empty);
-        }
-        let end = no_symbols(self.alloc, rule, to, to)?;
-        Ok(products(self.alloc, Few::Empty, rule.op, rule.sort, &found, &end)?)
+        Ok(last_rows(self.alloc, rule, &found, to)?)
     }
 
     // The rows of symbols that begin with a hole and go on. From the first place of a rule they are
@@ -382,14 +376,12 @@ impl Reader<'_> {
             number: gap.part.number,
             place: gap.part.place,
         };
-        let kept = recalled(memo, question, from, to)?;
-        if let Some(few) = kept {
+        let known = recalled(memo, question, from, to)?;
+        if let Some(few) = known {
             return Ok(few);
         }
         let few = self.new_splits(memo, gap, from, to, within)?;
-        let copy = shared(&few)?;
-        keep(self.alloc, memo, question, from, to, copy)?;
-        Ok(few)
+        Ok(kept(self.alloc, memo, question, from, to, few)?)
     }
 
     // So many words are behind the hole, which ends where they begin.
@@ -495,11 +487,35 @@ impl Reader<'_> {
             return Ok(Few::Empty);
         }
         let rest = self.row(memo, next, middle, to, within)?;
+        Ok(self.before_rest(memo, gap, &rest, from, middle, to)?)
+    }
+
+    // The same, where these are the rows of the symbols behind the hole.
+    #[cycle(read)]
+    fn before_rest(
+        &self,
+        memo: &mut Memo,
+        gap: Gap<'_>,
+        rest: &Few,
+        from: usize,
+        middle: usize,
+        to: usize,
+    ) -> Result<Few, AllocError>
+        requires ready { IsReady self.now memo.now }
+        requires few { length self.now.tokens.now ≤ most_tokens }
+        requires inside { to ≤ length self.now.tokens.now }
+        requires low { from < middle }
+        requires high { middle < to }
+        requires rest { Enough (In rest.now) (RestOver self.now gap.part middle to) }
+        ensures rows { IfOk result (λ v. KeepsTerms v
+            (SplitOver self.now gap.entry from middle to)) }
+        ensures ready { OnOk result (IsReady self.now memo.new) }
+    {
         if let Few::Empty = rest {
             return Ok(Few::Empty);
         }
         let found = self.terms(memo, gap.wanted, from, middle)?;
         let rule = gap.part.rule;
-        Ok(products(self.alloc, Few::Empty, rule.op, rule.sort, &found, &rest)?)
+        Ok(products(self.alloc, Few::Empty, rule.op, rule.sort, &found, rest)?)
     }
 }

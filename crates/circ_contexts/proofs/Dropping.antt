@@ -1,7 +1,8 @@
 -- Dropping candidates until none is dropped gives the greatest special set.
-use Rattle.std.specs.Prelude.{◌≡◌, ◌≤◌, ℕ, List, [], ◌∷◌, ◌++◌, map, length, Vec, refl}
+use Rattle.std.specs.Prelude.{◌≡◌, ◌≤◌, ℕ, List, [], ◌∷◌, ◌++◌, map, length, drop, ◌+◌, zero, suc, Vec, refl}
 use Rattle.std.specs.List.{AllByRecursion, Contains}
-use Rattle.std.proofs.Common.{Global, ap, sym, subst, ◌∙◌}
+use Rattle.std.proofs.Common.{Global, ap, sym, subst, ◌∙◌, append_assoc, append-nil}
+use Rattle.std.proofs.Math.ListN.{drop_of_length-le}
 use Rattle.circ_term.specs.Tree.{Tree}
 use Rattle.circ_theory.specs.Theory.{Theory, Derivative}
 use Rattle.circ_theory.proofs.Casing.{contains_first}
@@ -15,14 +16,13 @@ use Rattle.circ_rewrite.specs.Replacement.{Traced}
 use Rattle.circ_rewrite.specs.declared.parts.Normal.{Normal}
 use Rattle.circ_rewrite.specs.declared.parts.Trace.{Trace}
 use Rattle.circ_proof.specs.Certified.{derivatives_at, due}
-use Rattle.circ_contexts.specs.Candidates.{AreNormals, IsFound, AreCandidates, Passes, StandsAt, IsLast, places_of, plain_lists, traces_of}
+use Rattle.circ_contexts.specs.Candidates.{AreNormals, HaveNormalForms, AddsTraces, IsFound, AreCandidates, Passes, StandsAt, IsLast, IsGreatest, places_of, plain_lists}
 use Rattle.circ_plain_search.specs.Places.{all_places}
 use Rattle.circ_plain_search.specs.Greatest.{HasNormalForm, IsCandidate, IsSelfGuarded, AreTraces, GreatestSpecialSet}
 use Rattle.circ_plain_search.specs.Keeps.{Keeps, ends, keeps, drops}
 use Rattle.circ_contexts.specs.declared.candidates.Candidate.{Candidate}
 use Rattle.circ_plain_search.proofs.Increasing.{all_increase, increasing_kept, increasing_first, increasing_tail, before_all, is_listed}
 use Rattle.circ_plain_search.proofs.Keeping.{contains_none, pick, kept_from, kept_all, same_kept, all_kept}
-use Rattle.circ_plain_search.proofs.Unique.{one_normal, one_sort}
 
 all_of : {X : Type 0} (P : X → Type 0) (xs : List X) (x : X) → AllByRecursion P xs → Contains xs x → P x
 all_of P [] x a c = contains_none x c
@@ -60,39 +60,8 @@ places_kept P (keeps {xs = cs} {ys = ds} c p k) i =
 places_kept P (drops {xs = cs} c n k) i = places_kept P k (increasing_tail c.place (places_of cs) i)
 
 module _ (th : Theory) (budget : ℕ) where
-  -- ---- the normal forms of a candidate
-
-  -- what a self-guarded set says of each derivative holds of each normal form
-  all_normals : (P : Tree → Type 0) (g : Place) (ds : List Derivative) (ns : List Normal) → AreNormals th budget g ds ns
-      → ((d : Derivative) → Contains ds d → (t : Tree) (ts : List Traced) → HasNormalForm th budget g d t ts → P t)
-      → AllByRecursion (λ n. P n.term) ns
-  all_normals P g [] [] a h = tt
-  all_normals P g [] (n ∷ ns) a h = absurd a
-  all_normals P g (d ∷ ds) [] a h = absurd a
-  all_normals P g (d ∷ ds) (n ∷ ns) a h =
-      (h d (contains_first d ds) n.term (plain_traces n.traces.items) a.0, all_normals P g ds ns a.1 (λ e c. h e (in_rest d e ds c)))
-
-  -- and the other way about, since a normal form is the only one
-  each_normal : (P : Tree → Type 0) (g : Place) (ds : List Derivative) (ns : List Normal) → AreNormals th budget g ds ns
-      → AllByRecursion (λ n. P n.term) ns → (d : Derivative) → Contains ds d → (t : Tree) (ts : List Traced) → HasNormalForm th budget g d t ts → P t
-  each_normal P g [] ns a all d c t ts h = contains_none d c
-  each_normal P g (e ∷ ds) [] a all d c t ts h = absurd a
-  each_normal P g (e ∷ ds) (n ∷ ns) a all d c t ts h =
-      let Q : Derivative → Type 0 = λ d. HasNormalForm th budget g d t ts → P t in
-      pick Q e d ds
-      (λ x. subst P (one_normal th budget g e n.term t (plain_traces n.traces.items) ts a.0 x) all.0)
-      (λ x y. each_normal P g ds ns a.1 all.1 d x t ts y) c h
-
-  has_normals : (g : Place) (ds : List Derivative) (ns : List Normal) → AreNormals th budget g ds ns → (d : Derivative) → Contains ds d
-      → (t : Tree) × (ts : List Traced) × HasNormalForm th budget g d t ts
-  has_normals g [] ns a d c = contains_none d c
-  has_normals g (e ∷ ds) [] a d c = absurd a
-  has_normals g (e ∷ ds) (n ∷ ns) a d c =
-      let Q : Derivative → Type 0 = λ d. (t : Tree) × (ts : List Traced) × HasNormalForm th budget g d t ts in
-      pick Q e d ds (n.term, plain_traces n.traces.items, a.0) (λ x. has_normals g ds ns a.1 d x) c
-
   pub is_candidate : (c : Candidate) → IsFound th budget c → IsCandidate th budget c.place
-  is_candidate c f = record { place = f.place; normal_forms = has_normals c.place (derivatives_at th c.place) c.normals.items f.normals }
+  is_candidate c f = record { place = f.place; normal_forms = f.needs.0 }
 
   -- ---- the first round
 
@@ -116,7 +85,7 @@ module _ (th : Theory) (budget : ℕ) where
 
   -- ---- one round more
 
-  module _ (cs ds : List Candidate) (st : StandsAt th budget cs) (k : Keeps (Passes th (places_of cs)) cs ds) where
+  module _ (cs ds : List Candidate) (st : StandsAt th budget cs) (k : Keeps (Passes (places_of cs)) cs ds) where
     of_set : (F : List Place) → IsSelfGuarded th budget F → IsWithin F (places_of ds)
     of_set F s g c =
         let w : IsWithin F (places_of cs) = st.most F s in
@@ -124,29 +93,26 @@ module _ (th : Theory) (budget : ℕ) where
         let x = o.candidate in
         let f : IsFound th budget x = all_of (IsFound th budget) cs x st.found o.listed in
         let in_set : Contains F x.place = subst (Contains F) (sym o.place) c in
-        let P : Tree → Type 0 = λ t. Guarded th (places_of cs) t 0 x.sort in
-        let passes : Passes th (places_of cs) x = all_normals P x.place (derivatives_at th x.place) x.normals.items f.normals
-        (λ d l t ts h.
-        let e = one_sort th x.place h.place f.place ∙ f.sort in
-        subst (Guarded th (places_of cs) t 0) e (guarded_more th F (places_of cs) w t 0 h.place.sort (s.guarded x.place in_set d l t ts h)))
+        let passes : Passes (places_of cs) x = (f.needs.1 (places_of cs)).1
+        (λ d l t ts h. guarded_more th F (places_of cs) w t 0 h.place.sort (s.guarded x.place in_set d l t ts h))
         in
-        subst (Contains (places_of ds)) o.place (place_within ds x (kept_all (Passes th (places_of cs)) k x o.listed passes))
+        subst (Contains (places_of ds)) o.place (place_within ds x (kept_all (Passes (places_of cs)) k x o.listed passes))
 
     pub stands_next : StandsAt th budget ds
     stands_next = record {
-      increasing = places_kept (Passes th (places_of cs)) k st.increasing;
-      found = all_kept (Passes th (places_of cs)) (IsFound th budget) k st.found;
+      increasing = places_kept (Passes (places_of cs)) k st.increasing;
+      found = all_kept (Passes (places_of cs)) (IsFound th budget) k st.found;
       most = of_set;
     }
 
     -- none was dropped
     pub stands_last : length cs ≤ length ds → IsLast th budget ds
     stands_last h =
-        let same : ds ≡ cs = same_kept (Passes th (places_of cs)) k h in
-        let Q : List Candidate → Type 0 = λ xs. AllByRecursion (Passes th (places_of xs)) ds in
+        let same : ds ≡ cs = same_kept (Passes (places_of cs)) k h in
+        let Q : List Candidate → Type 0 = λ xs. AllByRecursion (Passes (places_of xs)) ds in
         record { stands = stands_next; passes = subst Q (sym same) (each_passes k) }
       where
-        each_passes : {xs ys : List Candidate} → Keeps (Passes th (places_of cs)) xs ys → AllByRecursion (Passes th (places_of cs)) ys
+        each_passes : {xs ys : List Candidate} → Keeps (Passes (places_of cs)) xs ys → AllByRecursion (Passes (places_of cs)) ys
         each_passes ends = tt
         each_passes (keeps c p k) = (p, each_passes k)
         each_passes (drops c n k) = each_passes k
@@ -174,15 +140,10 @@ module _ (th : Theory) (budget : ℕ) where
           let o = origin cs g c in
           let x = o.candidate in
           let f : IsFound th budget x = all_of (IsFound th budget) cs x l.stands.found o.listed in
-          let p : Passes th (places_of cs) x = all_of (Passes th (places_of cs)) cs x l.passes o.listed in
+          let p : Passes (places_of cs) x = all_of (Passes (places_of cs)) cs x l.passes o.listed in
           let R : Place → Type 0 = λ g. Contains (derivatives_at th g) d → (h : HasNormalForm th budget g d t ts)
           → Guarded th (places_of cs) t 0 h.place.sort in
-          let here : R x.place = λ m h.
-          let P : Tree → Type 0 = λ t. Guarded th (places_of cs) t 0 x.sort in
-          subst (Guarded th (places_of cs) t 0) (sym (one_sort th x.place h.place f.place ∙ f.sort))
-          (each_normal P x.place (derivatives_at th x.place) x.normals.items f.normals p d m t ts h)
-          in
-          subst R o.place here m h
+          subst R o.place (λ y z. (f.needs.1 (places_of cs)).0 p d y t ts z) m h
 
   -- the traces of a candidate, and then those of the others
   traces_append : (g : Place) (ds : List Derivative) (ns : List Normal) (xs : List (Place × Derivative)) (tss : List (List Traced))
@@ -193,21 +154,76 @@ module _ (th : Theory) (budget : ℕ) where
   traces_append g (d ∷ ds) [] xs tss a t = absurd a
   traces_append g (d ∷ ds) (n ∷ ns) xs tss a t = ((n.term, a.0), traces_append g ds ns xs tss a.1 t)
 
-  plain_normals : (ns : List Normal) (rest : List (Vec Trace Global)) → plain_lists (map (λ (n : Normal). n.traces) ns ++ rest)
-      ≡ map (λ (n : Normal). plain_traces n.traces.items) ns ++ plain_lists rest
-  plain_normals [] rest = refl
-  plain_normals (n ∷ ns) rest = ap (λ xs. plain_traces n.traces.items ∷ xs) (plain_normals ns rest)
+  -- what is found up to the place of number i
+  abbrev pub TracesTo : (gs : List Place) (i : ℕ) (vs : List (Vec Trace Global)) → Type 0
+  TracesTo gs i vs = (tss : List (List Traced)) → AreTraces th budget (due th (drop i gs)) tss → AreTraces th budget (due th gs) (plain_lists vs ++ tss)
 
-  recorded : (cs : List Candidate) → AllByRecursion (IsFound th budget) cs → AreTraces th budget (due th (places_of cs)) (plain_lists (traces_of cs))
-  recorded [] a = tt
-  recorded (c ∷ cs) a =
-      subst (AreTraces th budget (due th (places_of (c ∷ cs)))) (sym (plain_normals c.normals.items (traces_of cs)))
-      (traces_append c.place (derivatives_at th c.place) c.normals.items (due th (places_of cs)) (plain_lists (traces_of cs)) a.0.normals (recorded cs a.1))
+  plain_append : (vs ws : List (Vec Trace Global)) → plain_lists (vs ++ ws) ≡ plain_lists vs ++ plain_lists ws
+  plain_append [] ws = refl
+  plain_append (v ∷ vs) ws = ap (λ xs. plain_traces v.items ∷ xs) (plain_append vs ws)
 
-  pub is_greatest : (cs : List Candidate) → IsLast th budget cs → GreatestSpecialSet th budget (places_of cs) (plain_lists (traces_of cs))
+  plain_of : (ns : List Normal) → plain_lists (map (λ (n : Normal). n.traces) ns) ≡ map (λ (n : Normal). plain_traces n.traces.items) ns
+  plain_of [] = refl
+  plain_of (n ∷ ns) = ap (λ xs. plain_traces n.traces.items ∷ xs) (plain_of ns)
+
+  pub traces_next : (gs : List Place) (i : ℕ) (g : Place) (old new : List (Vec Trace Global)) → drop i gs ≡ g ∷ drop (i + 1) gs → TracesTo gs i old
+      → AddsTraces th budget g old new → TracesTo gs (i + 1) new
+  traces_next gs i g old new e st (ns, a, is) tss t =
+      let ds = derivatives_at th g in
+      let here = traces_append g ds ns (due th (drop (i + 1) gs)) tss a t in
+      let P : List Place → Type 0 = λ xs. AreTraces th budget (due th xs) (map (λ (n : Normal). plain_traces n.traces.items) ns ++ tss) in
+      let all = st (map (λ (n : Normal). plain_traces n.traces.items) ns ++ tss) (subst P (sym e) here) in
+      let same : plain_lists new ++ tss ≡ plain_lists old ++ (map (λ (n : Normal). plain_traces n.traces.items) ns ++ tss)
+      = ap (λ xs. plain_lists xs ++ tss) is ∙ ap (λ xs. xs ++ tss) (plain_append old (map (λ (n : Normal). n.traces) ns) ∙ ap (λ xs. plain_lists old ++ xs) (plain_of ns))
+      ∙ append_assoc (plain_lists old) (map (λ (n : Normal). plain_traces n.traces.items) ns) tss in
+      subst (AreTraces th budget (due th gs)) (sym same) all
+
+  pub traces_first : (gs : List Place) → TracesTo gs 0 []
+  traces_first gs = λ tss t. t
+
+  -- the candidate that comes next
+  pub one_candidate : (gs : List Place) (i : ℕ) (g : Place) → drop i gs ≡ g ∷ drop (i + 1) gs → AllByRecursion (IsCandidate th budget) gs → IsCandidate th budget g
+  one_candidate gs i g e a =
+      let P : List Place → Type 0 = AllByRecursion (IsCandidate th budget) in
+      let rest : AllByRecursion (IsCandidate th budget) (g ∷ drop (i + 1) gs) = subst P e (dropped i gs a) in rest.0
+    where
+      dropped : (i : ℕ) (gs : List Place) → AllByRecursion (IsCandidate th budget) gs → AllByRecursion (IsCandidate th budget) (drop i gs)
+      dropped zero gs a = a
+      dropped (suc i) [] a = tt
+      dropped (suc i) (g ∷ gs) a = dropped i gs a.1
+
+  pub traces_last : (gs : List Place) (i : ℕ) (vs : List (Vec Trace Global)) → length gs ≤ i → TracesTo gs i vs → AreTraces th budget (due th gs) (plain_lists vs)
+  traces_last gs i vs past st =
+      let P : List Place → Type 0 = λ xs. AreTraces th budget (due th xs) [] in
+      subst (AreTraces th budget (due th gs)) (append-nil (plain_lists vs)) (st [] (subst P (sym (drop_of_length-le gs past)) tt))
+
+  -- candidates have traces
+  pub some_traces : (gs : List Place) → AllByRecursion (IsCandidate th budget) gs → (tss : List (List Traced)) × AreTraces th budget (due th gs) tss
+  some_traces [] a = ([], tt)
+  some_traces (g ∷ gs) a = let rest = some_traces gs a.1 in go (derivatives_at th g) a.0.normal_forms rest
+    where
+      go : (ds : List Derivative) → HaveNormalForms th budget g ds → (tss : List (List Traced)) × AreTraces th budget (due th gs) tss
+          → (tss : List (List Traced)) × AreTraces th budget (map (λ d. (g, d)) ds ++ due th gs) tss
+      go [] h rest = rest
+      go (d ∷ ds) h rest =
+          let here = h d (contains_first d ds) in
+          let more = go ds (λ e c. h e (in_rest d e ds c)) rest in
+          (here.1 ∷ more.0, ((here.0, here.2), more.1))
+
+  pub is_greatest : (cs : List Candidate) → IsLast th budget cs → IsGreatest th budget (places_of cs)
   is_greatest cs l = record {
-    increasing = l.stands.increasing;
-    self_guarded = self_guarded cs l;
-    greatest = l.stands.most;
-    recorded = recorded cs l.stands.found;
+    candidates = all cs l.stands.found;
+    greatest = λ tss t. record {
+      increasing = l.stands.increasing;
+      self_guarded = self_guarded cs l;
+      greatest = l.stands.most;
+      recorded = t;
+    };
   }
+    where
+      all : (cs : List Candidate) → AllByRecursion (IsFound th budget) cs → AllByRecursion (IsCandidate th budget) (places_of cs)
+      all [] a = tt
+      all (c ∷ cs) a = (is_candidate c a.0, all cs a.1)
+
+  pub greatest_with_traces : (G : List Place) → IsGreatest th budget G → (tss : List (List Traced)) × GreatestSpecialSet th budget G tss
+  greatest_with_traces G h = let t = some_traces G h.candidates in (t.0, h.greatest t.0 t.1)

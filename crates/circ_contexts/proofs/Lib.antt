@@ -3,3 +3,4 @@ pub mod Starting
 pub mod Listing
 pub mod Gathering
 pub mod Dropping
+pub mod Needing

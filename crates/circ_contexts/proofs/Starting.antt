@@ -1,8 +1,8 @@
 -- The normal forms of start terms, as the code finds them one by one.
-use Rattle.std.specs.Prelude.{◌≡◌, ◌≤◌, ◌<◌, ◌==◌, ◌+◌, ℕ, true, false, List, [], ◌∷◌, ◌++◌, length, Option, Some, None, Result, Ok, Err, IfOk, Vec, Bool}
+use Rattle.std.specs.Prelude.{◌≡◌, ◌≤◌, ◌<◌, ◌==◌, ◌+◌, ℕ, true, false, List, [], ◌∷◌, ◌++◌, length, Option, Some, None, Result, Ok, Err, IfOk, Bool}
 use Rattle.std.specs.List.{Contains, slice_get, filter}
 use Rattle.std.specs.Option.{IfSome, option_map_or}
-use Rattle.std.proofs.Common.{Global, ap, sym, subst, ◌∙◌, append-nil, append_assoc}
+use Rattle.std.proofs.Common.{ap, sym, subst, ◌∙◌, append-nil, append_assoc}
 use Rattle.std.proofs.Math.ListN.{drop_of_length-le}
 use Rattle.std.proofs.lemmas.Option.{same_Some}
 use Rattle.circ_term.specs.Tree.{Tree}
@@ -23,7 +23,7 @@ use Rattle.circ_proof.specs.Certified.{start_term, derivatives_at}
 use Rattle.circ_rules.specs.Deriving.{IsBuilt}
 use Rattle.circ_rules.specs.declared.certificates.Start.{Start}
 use Rattle.circ_proof.proofs.Derivatives.{StartsWith, derivative_at, from_number, taken_next, passed_next, if_some_at, some_if_at}
-use Rattle.circ_contexts.specs.Candidates.{ComesTo, GivesNormal, AreNormals, IsFound}
+use Rattle.circ_contexts.specs.Candidates.{ComesTo, GivesNormal, AreNormals}
 use Rattle.circ_plain_search.specs.Greatest.{IsCandidate}
 
 module _ (th : Theory) (budget : ℕ) where
@@ -124,17 +124,3 @@ module _ (th : Theory) (budget : ℕ) where
       let none : from_number th.derivatives result i ≡ [] = ap (filter (λ d. d.hole == result)) (drop_of_length-le th.derivatives past) in
       let Q : List Derivative → Type 0 = λ ds. AreNormals th budget g ds [] in
       subst (AreNormals th budget g (derivatives_at th g)) (append-nil ns) (st.rest [] (subst Q (sym none) tt))
-
-  -- ---- the candidate
-
-  pub found : (s : Start) → IsStart th s → (ns : Vec Normal Global) → AreNormals th budget s.place (derivatives_at th s.place) ns.items
-      → IsFound th budget (record { place = s.place; sort = s.sort; normals = ns })
-  found s start ns a =
-      let p = start.place in
-      let o = operator_of s.decl.now in
-      let e : p.operator ≡ o = same_Some p.operator o (sym p.listed ∙ start.listed) in
-      record {
-        place = p;
-        sort = same_Some p.sort s.sort (sym p.argument ∙ ap (λ (o : Operator). slice_get o.args s.place.arg) e ∙ start.argument);
-        normals = a;
-      }

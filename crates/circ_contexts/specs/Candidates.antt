@@ -1,20 +1,22 @@
 -- Candidates as they lie in memory, how they are found, and how those are dropped that are not guarded.
-use Rattle.std.specs.Prelude.{◌≡◌, ℕ, List, [], ◌∷◌, ◌++◌, map, Option, Some, None, Vec, flat_map}
+use Rattle.std.specs.Prelude.{◌≡◌, ℕ, List, [], ◌∷◌, ◌++◌, map, Option, Some, None, Vec, Bool, true, false, ◌↔◌, ◌==◌}
 use Rattle.std.proofs.Common.{Global}
-use Rattle.std.specs.List.{AllByRecursion}
+use Rattle.std.specs.List.{AllByRecursion, Contains}
+use Rattle.std.specs.Option.{option_map_or}
 use Rattle.circ_term.specs.Tree.{Tree}
 use Rattle.circ_theory.specs.Signature.{Operator}
 use Rattle.circ_theory.specs.Theory.{Theory, Derivative}
 use Rattle.circ_special.specs.declared.place.Place.{Place}
 use Rattle.circ_special.specs.Special.{IsPlace, IsIncreasing, IsWithin}
 use Rattle.circ_special.specs.Guarded.{Guarded}
+use Rattle.circ_needs.specs.Needs.{HasAll}
 use Rattle.circ_rewrite.specs.Norm.{Normalised, Normal_form}
 use Rattle.circ_rewrite.specs.Plain.{plain_traces}
 use Rattle.circ_rewrite.specs.Replacement.{Traced}
 use Rattle.circ_rewrite.specs.declared.parts.Normal.{Normal}
 use Rattle.circ_rewrite.specs.declared.parts.Trace.{Trace}
-use Rattle.circ_proof.specs.Certified.{derivatives_at}
-use Rattle.circ_plain_search.specs.Greatest.{HasNormalForm, IsCandidate, IsSelfGuarded}
+use Rattle.circ_proof.specs.Certified.{derivatives_at, due}
+use Rattle.circ_plain_search.specs.Greatest.{HasNormalForm, IsCandidate, IsSelfGuarded, AreTraces, GreatestSpecialSet}
 use Rattle.circ_plain_search.specs.Keeps.{Keeps}
 use Rattle.circ_plain_search.specs.Places.{places_from}
 use Rattle.circ_contexts.specs.declared.candidates.Candidate.{Candidate}
@@ -41,11 +43,24 @@ abbrev pub ComesTo : Normalised → Option Normal → Type 0
 ComesTo o None = (normal : Tree) (traces : List Traced) (left : ℕ) → o ≡ Normal_form normal traces left → ⊥
 ComesTo o (Some n) = (left : ℕ) × (o ≡ Normal_form n.term (plain_traces n.traces.items) left)
 
+-- the same without its traces
+abbrev pub ComesToTerm : Normalised → Option Tree → Type 0
+ComesToTerm o None = (normal : Tree) (traces : List Traced) (left : ℕ) → o ≡ Normal_form normal traces left → ⊥
+ComesToTerm o (Some t) = (traces : List Traced) × (left : ℕ) × (o ≡ Normal_form t traces left)
+
+-- whether the derivative, if there is one, takes this sort
+abbrev pub takes : Option Derivative → (sort : ℕ) → Bool
+takes o s = option_map_or (λ d. d.hole == s) o false
+
 module _ (th : Theory) (budget : ℕ) where
   -- the normal form of the start term, or that it has none
   abbrev pub GivesNormal : Place → Derivative → Option Normal → Type 0
   GivesNormal g d None = (normal : Tree) (traces : List Traced) → HasNormalForm th budget g d normal traces → ⊥
   GivesNormal g d (Some n) = HasNormalForm th budget g d n.term (plain_traces n.traces.items)
+
+  abbrev pub GivesTerm : Place → Derivative → Option Tree → Type 0
+  GivesTerm g d None = (normal : Tree) (traces : List Traced) → HasNormalForm th budget g d normal traces → ⊥
+  GivesTerm g d (Some t) = (traces : List Traced) × HasNormalForm th budget g d t traces
 
   -- one for each derivative
   abbrev pub AreNormals : Place → List Derivative → List Normal → Type 0
@@ -59,16 +74,42 @@ module _ (th : Theory) (budget : ℕ) where
   GivesNormals g None = IsCandidate th budget g → ⊥
   GivesNormals g (Some ns) = AreNormals g (derivatives_at th g) ns.items
 
-  -- A candidate with the sort of its argument and its normal forms.
+  -- the start term of each of these derivatives has a normal form
+  abbrev pub HaveNormalForms : Place → List Derivative → Type 0
+  HaveNormalForms g ds = (d : Derivative) → Contains ds d → (normal : Tree) × (traces : List Traced) × HasNormalForm th budget g d normal traces
+
+  -- the set guards each normal form of the start terms of a place
+  abbrev pub GuardsNormals : (G : List Place) → Place → List Derivative → Type 0
+  GuardsNormals G g ds = (d : Derivative) → Contains ds d → (normal : Tree) (traces : List Traced) → (h : HasNormalForm th budget g d normal traces)
+      → Guarded th G normal 0 h.place.sort
+
+  -- what is needed for the normal form of one derivative more, where there is one
+  abbrev pub AddsNeeds : Place → (sort : ℕ) → Derivative → (old new : List Place) → Bool → Type 0
+  AddsNeeds g s d old new true = (normal : Tree) × (traces : List Traced) × HasNormalForm th budget g d normal traces
+      × ((G : List Place) → HasAll G new ↔ (HasAll G old × Guarded th G normal 0 s))
+  AddsNeeds g s d old new false = (normal : Tree) (traces : List Traced) → HasNormalForm th budget g d normal traces → ⊥
+
+  -- exactly the sets that have these places guard all normal forms of the place
+  abbrev pub AreNeeds : Place → (needs : List Place) → Type 0
+  AreNeeds g ps = HaveNormalForms g (derivatives_at th g) × ((G : List Place) → HasAll G ps ↔ GuardsNormals G g (derivatives_at th g))
+
+  abbrev pub GivesNeeds : Place → Option (List Place) → Type 0
+  GivesNeeds g None = IsCandidate th budget g → ⊥
+  GivesNeeds g (Some ps) = AreNeeds g ps
+
+  -- A candidate with its needs.
   pub record IsFound (c : Candidate) : Type 0 where
     pub place : IsPlace th c.place
-    pub sort : place.sort ≡ c.sort
-    pub normals : AreNormals c.place (derivatives_at th c.place) c.normals.items
+    pub needs : AreNeeds c.place c.needs
 
   -- the candidate of a place, or that it is none
   abbrev pub GivesCandidate : Place → Option Candidate → Type 0
   GivesCandidate g None = IsCandidate th budget g → ⊥
   GivesCandidate g (Some c) = (c.place ≡ g) × IsFound c
+
+  -- the traces of a place are written behind the others
+  abbrev pub AddsTraces : Place → (old new : List (Vec Trace Global)) → Type 0
+  AddsTraces g old new = (ns : List Normal) × AreNormals g (derivatives_at th g) ns × (new ≡ old ++ map (λ n. n.traces) ns)
 
 abbrev pub places_of : List Candidate → List Place
 places_of cs = map (λ c. c.place) cs
@@ -80,9 +121,9 @@ pub record AreCandidates (th : Theory) (budget : ℕ) (gs : List Place) (cs : Li
 
 -- ---- dropping
 
--- each normal form of the candidate is guarded by the set
-abbrev pub Passes : Theory → List Place → Candidate → Type 0
-Passes th G c = AllByRecursion (λ n. Guarded th G n.term 0 c.sort) c.normals.items
+-- the set has what the candidate needs
+abbrev pub Passes : (G : List Place) → Candidate → Type 0
+Passes G c = HasAll G c.needs
 
 -- What is left in increasing order, among which is each place of each self-guarded set.
 pub record StandsAt (th : Theory) (budget : ℕ) (cs : List Candidate) : Type 0 where
@@ -93,8 +134,9 @@ pub record StandsAt (th : Theory) (budget : ℕ) (cs : List Candidate) : Type 0 
 -- The same, and each that is left passes.
 pub record IsLast (th : Theory) (budget : ℕ) (cs : List Candidate) : Type 0 where
   pub stands : StandsAt th budget cs
-  pub passes : AllByRecursion (Passes th (places_of cs)) cs
+  pub passes : AllByRecursion (Passes (places_of cs)) cs
 
--- the traces of their start terms, in order
-abbrev pub traces_of : List Candidate → List (Vec Trace Global)
-traces_of cs = flat_map (λ c. map (λ n. n.traces) c.normals.items) cs
+-- The set is of candidates, and with the traces of their start terms it is the greatest.
+pub record IsGreatest (th : Theory) (budget : ℕ) (G : List Place) : Type 0 where
+  pub candidates : AllByRecursion (IsCandidate th budget) G
+  pub greatest : (tss : List (List Traced)) → AreTraces th budget (due th G) tss → GreatestSpecialSet th budget G tss

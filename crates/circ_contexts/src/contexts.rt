@@ -1,20 +1,23 @@
 //! The greatest special set, by dropping candidates until none is dropped.
-ghost use Rattle.std.specs.Prelude.{◌≡◌, ◌↔◌, ◌++◌, IsTrue, IfOk, OnOk, map};
+ghost use Rattle.std.specs.Prelude.{◌≡◌, List, IfOk};
 ghost use Rattle.circ_special.specs.Special.{IsSet};
+ghost use Rattle.circ_rewrite.specs.Replacement.{Traced};
 ghost use Rattle.circ_plain_search.specs.Greatest.{GreatestSpecialSet};
 ghost use Rattle.circ_plain_search.specs.Keeps.{Keeps};
-ghost use Rattle.circ_contexts.specs.Candidates.{Passes, StandsAt, IsLast};
-ghost use Rattle.circ_contexts.specs.Candidates.{places_of, plain_lists, traces_of};
+ghost use Rattle.circ_contexts.specs.ByTheory.{by_theory};
+ghost use Rattle.circ_contexts.specs.Candidates.{Passes, StandsAt, IsLast, IsGreatest};
+ghost use Rattle.circ_contexts.specs.Candidates.{places_of, plain_lists};
 
 use crate::candidates::{Candidate, Means};
 use crate::places::hidden_places;
-use circ_rewrite::{Normal, Trace};
-use circ_special::{Gamma, Place, guarded};
+use circ_rewrite::{Trace, theory_rules};
+use circ_special::{Gamma, Place};
 use circ_theory::Theory;
+use circ_tries::Reducer;
 use std::alloc::{AllocError, Global};
 
 /// The greatest special set of a theory, with a list of traces for each certificate that is due
-/// for it. Each start term is brought to its normal form once, with the whole budget.
+/// for it. Each start term is brought to its normal form with the whole budget.
 pub fn special_contexts(
     alloc: Global,
     theory: &Theory,
@@ -28,15 +31,39 @@ pub fn special_contexts(
         theory,
         budget,
     };
-    let places = hidden_places(alloc, theory)?;
-    let candidates = means.candidates(places.as_slice())?;
-    let left = means.greatest(candidates)?;
-    let gamma = set_of(alloc, theory, left.as_slice())?;
-    let traces = traces_of(alloc, left)?;
+    let mut reducer = Reducer::new(alloc, theory, theory_rules(alloc, theory)?)?;
+    let gamma = means.greatest_set(&mut reducer)?;
+    let traces = means.traces(&mut reducer, gamma.places())?;
     Ok((gamma, traces))
 }
 
+/// The greatest special set of a theory. Its traces are not made.
+pub fn special_places(alloc: Global, theory: &Theory, budget: u64) -> Result<Gamma, AllocError>
+    ensures greatest { IfOk result (λ g. (traces : List (List Traced))
+        × GreatestSpecialSet theory.now budget g traces) }
+{
+    let means = Means {
+        alloc,
+        theory,
+        budget,
+    };
+    let mut reducer = Reducer::new(alloc, theory, theory_rules(alloc, theory)?)?;
+    means.greatest_set(&mut reducer)
+}
+
 impl Means<'_> {
+    // The greatest set of the theory.
+    fn greatest_set(&self, reducer: &mut Reducer<'_>) -> Result<Gamma, AllocError>
+        requires reducer { reducer.old ≡ by_theory self.now.theory.now }
+        ensures exact { IfOk result (IsGreatest self.now.theory.now self.now.budget) }
+        ensures same { reducer.new ≡ reducer.old }
+    {
+        let places = hidden_places(self.alloc, self.theory)?;
+        let candidates = self.candidates(reducer, places.as_slice())?;
+        let left = self.greatest(candidates)?;
+        set_of(self.alloc, self.theory, left.as_slice())
+    }
+
     // The candidates of the greatest set: those are dropped that have a normal form which is not
     // guarded by those that are left, again and again.
     fn greatest(&self, candidates: Vec<Candidate>) -> Result<Vec<Candidate>, AllocError>
@@ -48,29 +75,17 @@ impl Means<'_> {
         while left.len() < before {
             before = left.len();
             let gamma = set_of(self.alloc, self.theory, left.as_slice())?;
-            narrow(self.theory, &gamma, &mut left);
+            narrow(&gamma, &mut left);
         }
         Ok(left)
     }
 }
 
 // Drops the candidates that have a normal form which is not guarded by the set.
-fn narrow(theory: &Theory, gamma: &Gamma, candidates: &mut Vec<Candidate>)
-    ensures { Keeps (Passes theory.now gamma.now) candidates.old.items candidates.new.items }
+fn narrow(gamma: &Gamma, candidates: &mut Vec<Candidate>)
+    ensures { Keeps (Passes gamma.now) candidates.old.items candidates.new.items }
 {
-    candidates.retain(|candidate| passes(theory, gamma, candidate));
-}
-
-// Whether each normal form of the candidate is guarded by the set.
-fn passes(theory: &Theory, gamma: &Gamma, candidate: &Candidate) -> bool
-    ensures { IsTrue result ↔ Passes theory.now gamma.now candidate.now }
-{
-    for normal in &candidate.normals {
-        if !guarded(theory, gamma, &normal.term, 0, candidate.sort) {
-            return false;
-        }
-    }
-    true
+    candidates.retain(|candidate| candidate.needs.are_in(gamma));
 }
 
 // The set of the candidates' places.
@@ -93,25 +108,4 @@ fn places_in(alloc: Global, candidates: &[Candidate]) -> Result<Vec<Place>, Allo
         places.push(candidate.place)?;
     }
     Ok(places)
-}
-
-// The traces of the candidates' start terms, in order.
-fn traces_of(alloc: Global, candidates: Vec<Candidate>) -> Result<Vec<Vec<Trace>>, AllocError>
-    ensures { IfOk result (λ v. v.items ≡ traces_of candidates.items) }
-{
-    let mut traces = Vec::new(alloc);
-    for candidate in candidates {
-        push_traces(candidate.normals, &mut traces)?;
-    }
-    Ok(traces)
-}
-
-fn push_traces(normals: Vec<Normal>, traces: &mut Vec<Vec<Trace>>) -> Result<(), AllocError>
-    ensures { OnOk result
-        (traces.new.items ≡ traces.old.items ++ map (λ n. n.traces) normals.items) }
-{
-    for normal in normals {
-        traces.push(normal.traces)?;
-    }
-    Ok(())
 }

@@ -3,19 +3,19 @@ use Rattle.std.proofs.Common.{◌≡◌, ◌≢◌, ◌≤◌, ◌+◌, ◌*◌,
 use Rattle.std.specs.List.{AllByRecursion, Contains}
 use Rattle.circ_term.specs.Tree.{Tree, Trees, Var, App, none, more}
 use Rattle.circ_theory.specs.Fresh.{above, all_above, fresh_after, above_pairs, fresh_in}
-use Rattle.circ_theory.specs.Theory.{Theory, Pair, HasNoConditions}
+use Rattle.circ_theory.specs.Theory.{Theory, Pair}
 use Rattle.circ_theory.specs.Variables.{occurrences, all_occurrences}
 use Rattle.circ_theory.specs.declared.parts.Goal.{Goal}
 use Rattle.circ_theory.proofs.Casing.{contains_first}
 use Rattle.circ_theory.proofs.Weakening.{in_rest}
 use Rattle.circ_mixfix.specs.Found.{sides_of_pairs}
 use Rattle.circ_read.specs.Adding.{goal_terms}
-use Rattle.circ_plain_search.specs.PlainSearch.{IsSearchable, AreSearchable}
+use Rattle.circ_plain_search.specs.PlainSearch.{IsSearchable}
 use Rattle.circ_conditional_search.specs.ConditionalSearch.{CanBeSearched, CanAllBeSearched}
 use Rattle.circ_script.specs.Fit.{HasNumbersUpTo, IsFitGoal, IsFit, AreBare, IsScriptFor}
 use Rattle.circ_script.specs.Script.{Script}
 use Rattle.circ_script.specs.declared.job.Job.TheVariants.{Differ}
-use Rattle.circ_found.specs.Searchable.{IsWithinGoal, AreWithin}
+use Rattle.circ_found.specs.Searchable.{IsWithinGoal, AreWithin, ArePlainlySearchable}
 
 parts : {X : Type 0} (P : X → Type 0) (xs ys : List X) → AllByRecursion P (xs ++ ys) → AllByRecursion P xs × AllByRecursion P ys
 parts P [] ys h = (tt, h)
@@ -98,7 +98,7 @@ module _ (th : Theory) where
   plain_blocks (b ∷ bs) bare c =
       (plain_goals b (λ g d. bare b g (contains_first b bs) d) c.0, plain_blocks bs (λ e g d k. bare e g (in_rest b e bs d) k) c.1)
 
-  pub script_plainly_searchable : (sc : Script) → HasNoConditions th → IsFit th sc → IsScriptFor Differ sc → AreWithin sc.blocks → AreSearchable th sc.blocks
-  script_plainly_searchable sc plain fit goals w =
+  pub script_plainly_searchable : (sc : Script) → IsFit th sc → IsScriptFor Differ sc → AreWithin sc.blocks → ArePlainlySearchable th sc.blocks
+  script_plainly_searchable sc fit goals w =
       let c = script_searchable sc fit goals.0 w in
-      record { no_conditions = plain; some_block = c.some_block; some_goal = c.some_goal; goals = plain_blocks sc.blocks goals.2 c.goals }
+      record { some_block = c.some_block; some_goal = c.some_goal; goals = plain_blocks sc.blocks goals.2 c.goals }

@@ -2,12 +2,12 @@
 ghost use Rattle.std.specs.Prelude.{◌≡◌, ◌≤◌, ◌++◌, None, length, map, flat_map, codes, IfOk, OnOk};
 ghost use Rattle.std.specs.List.{AllByRecursion};
 ghost use Rattle.circ_entry.specs.Plain.{plain_entry, plain_entries};
-ghost use Rattle.circ_plain_search.specs.PlainSearch.{AreSearchable};
 ghost use Rattle.circ_refute.specs.Plain.{plain_refuted};
 ghost use Rattle.circ_show.specs.EntryText.{IsEntry};
 ghost use Rattle.circ_files.specs.declared.status.Status.TheVariants as status;
 ghost use Rattle.circ_found.specs.Differing.{entry_line, differs_text, refuted_ending, DifferEnds};
 ghost use Rattle.circ_found.specs.Differing.{AreEntries};
+ghost use Rattle.circ_found.specs.Searchable.{ArePlainlySearchable};
 ghost use Rattle.circ_files.specs.Ending.{ending, plain_ending};
 
 use crate::answering::{spent, too_big, too_deep, unstored};
@@ -29,7 +29,7 @@ pub fn differ<'a>(
     rewrites: u64,
     derives: u64,
 ) -> Result<Ending<'a>, AllocError>
-    requires searchable { AreSearchable theory.now (map (λ b. b.items) blocks.now) }
+    requires searchable { ArePlainlySearchable theory.now (map (λ b. b.items) blocks.now) }
     requires few { derives ≤ 10000 }
     ensures { IfOk result (λ e. DifferEnds theory.now rewrites derives
         (map (λ b. b.items) blocks.now) (plain_ending e)) }

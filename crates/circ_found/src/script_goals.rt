@@ -2,13 +2,11 @@
 ghost use Rattle.std.specs.Prelude.{◌≡◌, map};
 ghost use Rattle.std.specs.List.{AllByRecursion};
 ghost use Rattle.circ_theory.specs.Pairs.{plain_pair};
-ghost use Rattle.circ_theory.specs.Theory.{HasNoConditions};
-ghost use Rattle.circ_plain_search.specs.PlainSearch.{AreSearchable};
 ghost use Rattle.circ_conditional_search.specs.ConditionalSearch.{IsPairWithin, CanAllBeSearched};
 ghost use Rattle.circ_script.specs.Script.{plain_script};
 ghost use Rattle.circ_script.specs.Fit.{IsFit, IsScriptFor};
 ghost use Rattle.circ_script.specs.declared.job.Job.TheVariants.{Prove, Differ};
-ghost use Rattle.circ_found.specs.Searchable.{IsWithinGoal, AreWithin};
+ghost use Rattle.circ_found.specs.Searchable.{ArePlainlySearchable, IsWithinGoal, AreWithin};
 
 use circ_script::Script;
 use circ_theory::{Goal, Pair, Theory};
@@ -25,13 +23,11 @@ pub fn searchable(theory: &Theory, script: &Script)
     blocks_within(script.blocks.as_slice());
 }
 
-/// What is read as a script for goals without conditions can be searched plainly, in a theory
-/// without conditions.
+/// What is read as a script for goals without conditions can be searched plainly.
 pub fn plainly_searchable(theory: &Theory, script: &Script)
-    requires plain { HasNoConditions theory.now }
     requires fit { IsFit theory.now (plain_script script.now) }
     requires goals { IsScriptFor Differ (plain_script script.now) }
-    ensures searchable { AreSearchable theory.now (plain_script script.now).blocks }
+    ensures searchable { ArePlainlySearchable theory.now (plain_script script.now).blocks }
     ensures same { (plain_script script.now).blocks
         ≡ map (λ b. b.items) script.now.blocks.items }
 {

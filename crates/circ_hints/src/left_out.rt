@@ -3,18 +3,8 @@ use crate::marks::Mark;
 use crate::parts::{Part, first, is};
 use circ_lexer::Tokens;
 
-/// What is said of conditions where a command takes none.
-const NO_CONDITIONS: &str =
-    "`differ` does not take conditions: write equations with values (docs/from-circ-and-maude.md)";
-
-/// The mark of a word that is left out: in the statement, or in the whole text if it has no number.
-pub(crate) fn left_out(tokens: &Tokens<'_>, part: Part, number: u64, word: &[u8]) -> Mark {
-    if number == 0 {
-        return Mark::at(
-            first(tokens, 0, tokens.count(), word).unwrap_or(0),
-            NO_CONDITIONS,
-        );
-    }
+/// The mark of a word that is left out, in its statement.
+pub(crate) fn left_out(tokens: &Tokens<'_>, part: Part, word: &[u8]) -> Mark {
     let says = says_of_word(tokens, part, word);
     match first(tokens, part.from, part.to, word) {
         Some(found) => Mark::naming(found, says),

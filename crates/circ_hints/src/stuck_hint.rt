@@ -10,19 +10,44 @@ use std::fmt::Write;
 /// As many splits as stand inside one another at most.
 const MOST_CASES: u64 = 8;
 
-/// What a search lacks that is stuck, and, where both sides are constants, the call that may show
-/// that the goal is false.
-pub fn stuck_end(alloc: Global, asked: Asked<'_>, seen: Seen) -> Result<String, AllocError> {
+/// What a search lacks that is stuck, and the call that may show that the goal is false: where both
+/// sides are constants, and no goal of the script has conditions. The script is empty if it is not
+/// known.
+pub fn stuck_end(
+    alloc: Global,
+    asked: Asked<'_>,
+    seen: Seen,
+    script: &[u8],
+) -> Result<String, AllocError> {
     let mut out = String::new(alloc);
     out.push_str(if seen.cases >= MOST_CASES {
         "circ: 8 cases stand inside one another, as many as there may be\n"
     } else {
         "circ: no rule, hypothesis or lemma leads on, and nothing is left to split on\n"
     })?;
-    if seen.are_constants {
+    if seen.are_constants && !has_conditions(alloc, script) {
         push_difference(&mut out, asked)?;
     }
     Ok(out)
+}
+
+/// Whether a goal of a script has conditions, which `differ` does not take.
+fn has_conditions(alloc: Global, script: &[u8]) -> bool {
+    let Ok(tokens) = Tokens::of(alloc, script) else {
+        return false;
+    };
+    let mut from = 0;
+    for _ in 0..tokens.count() {
+        let item = item_from(&tokens, from);
+        if !item.is_ended {
+            return false;
+        }
+        if is(&tokens, item.from, b"add") && is(&tokens, item.nth(1), b"cgoal") {
+            return true;
+        }
+        from = behind_item(&tokens, from, item);
+    }
+    false
 }
 
 /// Appends the call that may show that a goal of these words is false.

@@ -243,7 +243,7 @@ fn by_form(
 ) -> Mark {
     let says = says_of(cause);
     match cause {
-        Cause::LeftOut { word } => left_out(tokens, part, number, word.bytes()),
+        Cause::LeftOut { word } => left_out(tokens, part, word.bytes()),
         Cause::Shape => shape(source, tokens, part, number),
         Cause::NoGoal if source.kind == SourceKind::Terms => {
             Mark::at(part.from, "no `red TERM .` stands here")

@@ -125,12 +125,14 @@ fn stuck_hint<R: Files + AllocGlobal>(
     seen: Seen,
 ) -> Result<Option<String>, AllocError> {
     let mut text = String::new(rt.alloc());
-    if !asked.splits() {
-        if let Some((name, bytes)) = file_of(rt, asked, SCRIPT_FILE) {
+    let mut script = Vec::new(rt.alloc());
+    if let Some((name, bytes)) = file_of(rt, asked, SCRIPT_FILE) {
+        if !asked.splits() {
             text = stuck_goal(rt.alloc(), name, bytes.as_slice(), block, goal)?;
         }
+        script = bytes;
     }
-    text.push_str(stuck_end(rt.alloc(), asked, seen)?.as_str())?;
+    text.push_str(stuck_end(rt.alloc(), asked, seen, script.as_slice())?.as_str())?;
     text.push_str(trace_call(rt.alloc(), asked)?.as_str())?;
     Ok(Some(text))
 }

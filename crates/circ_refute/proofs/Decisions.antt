@@ -3,7 +3,7 @@ use Rattle.std.proofs.Common.{◌≡◌, ℕ, ◌+◌, ◌-◌, ◌≤◌, ◌<�
 use Rattle.std.specs.Prelude.{IfOk}
 use Rattle.std.specs.List.{slice_get, AllByRecursion}
 use Rattle.circ_term.proofs.Within.{drop_read}
-use Rattle.circ_theory.specs.Theory.{Theory, HasNoConditions}
+use Rattle.circ_theory.specs.Theory.{Theory}
 use Rattle.circ_theory.specs.WellFormed.{IsWellFormed}
 use Rattle.circ_theory.specs.declared.parts.Goal.{Goal}
 use Rattle.circ_plain_search.specs.PlainSearch.{IsSearchable}
@@ -46,7 +46,7 @@ number_up th i d n (g ∷ gs) =
     go Spent h = omega arith
     go (Past_limit x) h = omega arith
 
-module _ (th : Theory) (ok : IsWellFormed th) (bare : HasNoConditions th) where
+module _ (th : Theory) (ok : IsWellFormed th) where
   refutations_right : (gs : List Goal) → AllByRecursion (IsSearchable th) gs → (i d n : ℕ)
       → IsRightOf th i gs (refutations th i d n gs).goal (refutations th i d n gs).conclusion.refuted
   refutations_right [] a i d n = tt
@@ -59,7 +59,7 @@ module _ (th : Theory) (ok : IsWellFormed th) (bare : HasNoConditions th) where
       next = refutations th (i + 1) c.derives c.rewrites gs
 
       this : (r : Refuted) → c.refuted ≡ r → IsRightOf th i (g ∷ gs) i c.refuted
-      this r e = right_here th i g gs c.refuted (refutation_right th ok bare g a.0 d n)
+      this r e = right_here th i g gs c.refuted (refutation_right th ok g a.0 d n)
 
       go : (r : Refuted) → c.refuted ≡ r → IsRightOf th (i + 1) gs next.goal next.conclusion.refuted
           → IsRightOf th i (g ∷ gs) (unless_alike r (decide i c) next).goal (unless_alike r (decide i c) next).conclusion.refuted

@@ -9,7 +9,7 @@ use Rattle.circ_term.specs.Order.{is_same}
 use Rattle.circ_term.specs.Substitution.{Substitution}
 use Rattle.circ_term.proofs.Limits.{or_else_parts}
 use Rattle.circ_theory.specs.Signature.{Signature, IsWellSorted, HaveSorts, IsSubstitution, IsSort}
-use Rattle.circ_theory.specs.Theory.{Theory, Pair, pair_with, sides, Derivative, IsVisible, IsHidden, IsWellSortedPair, HasNoConditions}
+use Rattle.circ_theory.specs.Theory.{Theory, Pair, pair_with, sides, Derivative, IsVisible, IsHidden, IsWellSortedPair}
 use Rattle.circ_theory.specs.WellFormed.{IsWellFormed}
 use Rattle.circ_theory.specs.Derivable.{Derivable, by_same, by_chain}
 use Rattle.circ_theory.specs.Experiment.{Entry, plug, derived, on}
@@ -258,7 +258,7 @@ low_after l m = omega arith
 
 -- ---- what is found
 
-module _ (th : Theory) (ok : IsWellFormed th) (bare : HasNoConditions th) (g : Goal) (gs : IsWellSortedPair th.signature (sides g)) where
+module _ (th : Theory) (ok : IsWellFormed th) (g : Goal) (gs : IsWellSortedPair th.signature (sides g)) where
   -- what is owed on expanding
   abbrev IsRightExpanding : Expanding → Type 0
   IsRightExpanding expand =
@@ -294,7 +294,7 @@ module _ (th : Theory) (ok : IsWellFormed th) (bare : HasNoConditions th) (g : G
       → (o : Normalised) → normal th n t ≡ o → IsRight th g (with_normal d o f).refuted
   with_normal_right d n t f w wl h Budget_spent e = tt
   with_normal_right d n t f w wl h (Limit_passed l k) e = tt
-  with_normal_right d n t f w wl h (Normal_form u ts k) e = h u k (normal_keeps th ok bare n t u ts k w wl e).0
+  with_normal_right d n t f w wl h (Normal_form u ts k) e = h u k (normal_keeps th ok n t u ts k w wl e).0
 
   through_right : (expand : Expanding) → IsRightExpanding expand → (d n : ℕ) (seen : List Pair) (ws : List Waiting) → AreDescendants th g ws
       → IsRight th g (through th expand d n seen ws).refuted
@@ -346,6 +346,6 @@ module _ (th : Theory) (ok : IsWellFormed th) (bare : HasNoConditions th) (g : G
         tt,
       )
 
-pub refutation_right : (th : Theory) → IsWellFormed th → HasNoConditions th → (g : Goal) → IsSearchable th g → (d n : ℕ)
+pub refutation_right : (th : Theory) → IsWellFormed th → (g : Goal) → IsSearchable th g → (d n : ℕ)
     → IsRight th g (refutation th d n g).refuted
-refutation_right th ok bare g s d n = sides_right th ok bare g s.sorted.sorted s.left_within s.right_within d n
+refutation_right th ok g s d n = sides_right th ok g s.sorted.sorted s.left_within s.right_within d n

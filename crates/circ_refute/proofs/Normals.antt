@@ -4,7 +4,7 @@ use Rattle.circ_term.specs.Tree.{Tree}
 use Rattle.circ_term.specs.Limits.{IsWithinLimits}
 use Rattle.circ_term.specs.Substitution.{Substitution}
 use Rattle.circ_theory.specs.Signature.{IsWellSorted}
-use Rattle.circ_theory.specs.Theory.{Theory, Pair, HasNoConditions}
+use Rattle.circ_theory.specs.Theory.{Theory, Pair}
 use Rattle.circ_theory.specs.WellFormed.{IsWellFormed}
 use Rattle.circ_theory.specs.Fresh.{above}
 use Rattle.circ_theory.specs.Derivable.{by_same, by_chain}
@@ -20,14 +20,15 @@ use Rattle.circ_rewrite.specs.Links.{link_of}
 use Rattle.circ_rewrite.specs.Norm.{Normal_form}
 use Rattle.circ_rewrite.specs.Replacement.{Traced}
 use Rattle.circ_rewrite.specs.TheoryRules.{theory_rules}
-use Rattle.circ_rewrite.proofs.RuleLists.{rules_are, theory_unconditional}
-use Rattle.circ_plain_search.proofs.Led.{Led, link_by_terms}
-use Rattle.circ_plain_search.proofs.Normals.{normal_form_led}
+use Rattle.circ_rewrite.proofs.RuleLists.{rules_are}
+use Rattle.circ_plain_search.proofs.Led.{link_by_terms}
 use Rattle.circ_plain_search.proofs.Terms.{Fine}
+use Rattle.circ_conditional_search.proofs.Led.{Led}
+use Rattle.circ_conditional_search.proofs.Normals.{normal_form_led}
 use Rattle.circ_refute.specs.PlainRefutation.{normal}
 use Rattle.circ_refute.specs.Progress.{IsLowPair}
 
-module _ (th : Theory) (ok : IsWellFormed th) (none : HasNoConditions th) where
+module _ (th : Theory) (ok : IsWellFormed th) where
   abbrev here : Setting
   here = setting th [] [] []
 
@@ -62,7 +63,7 @@ module _ (th : Theory) (ok : IsWellFormed th) (none : HasNoConditions th) where
       record { derivable = by_chain r.0 x.derivable y.derivable; well_sorted = y.well_sorted; same_sort = y.same_sort ∙ x.same_sort }
 
   led : (m : ℕ) → 1 ≤ m → (n : ℕ) (t u : Tree) (ts : List Traced) (k : ℕ) → Fine th m t → normal th n t ≡ Normal_form u ts k → Led here m (map link_of ts) t u
-  led m one n t u ts k f e = normal_form_led th ok m one [] (theory_rules th) (rules_are th ok []) (theory_unconditional th none) [] tt [] t u ts n k f e
+  led m one n t u ts k f e = normal_form_led th ok m one [] (theory_rules th) (rules_are th ok []) [] tt [] t u ts n k f e
 
   pub normal_keeps : (n : ℕ) (t u : Tree) (ts : List Traced) (k : ℕ) → IsWellSorted th.signature t → IsWithinLimits t → normal th n t ≡ Normal_form u ts k
       → KeepsDerivable th [] t u × IsWithinLimits u

@@ -10,8 +10,9 @@ use Rattle.circ_theory.specs.Experiment.{derived}
 use Rattle.circ_theory.specs.Observing.{is_hidden, cases_of}
 use Rattle.circ_theory.specs.Fresh.{fresh_after, numbered_from, variables_from, parameter_sorts}
 use Rattle.circ_theory.specs.declared.parts.Goal.{Goal}
-use Rattle.circ_rewrite.specs.Norm.{Normalised, Normal_form, Budget_spent, Limit_passed, norm}
+use Rattle.circ_rewrite.specs.Norm.{Normalised, Normal_form, Budget_spent, Limit_passed}
 use Rattle.circ_rewrite.specs.TheoryRules.{theory_rules}
+use Rattle.circ_conditional_norm.specs.Norm.{conditional_norm}
 use Rattle.circ_entry.specs.Entries.{Written, written_entry}
 
 -- a pair that waits, with the entries that led to it from the goal
@@ -89,9 +90,9 @@ grow go_on d l m n seen ws cs = option_map_or (λ x. conclude (Past_limit x) n d
 
 -- ---- the pairs one after another
 
--- the normal form by the theory's rules
+-- the normal form by the theory's rules, with no try around the term
 abbrev pub normal : Theory → (budget : ℕ) → Tree → Normalised
-normal th n t = norm th.signature (theory_rules th) [] n t
+normal th n t = conditional_norm 0 th.signature (theory_rules th) [] n t
 
 -- what a normal form, with the rewrites that are left, leads to
 abbrev pub with_normal : (derives : ℕ) → Normalised → (Tree → ℕ → Conclusion) → Conclusion

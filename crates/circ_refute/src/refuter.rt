@@ -4,7 +4,7 @@ ghost use Rattle.std.specs.List.{list_any};
 ghost use Rattle.circ_term.specs.Tree.{sort_of};
 ghost use Rattle.circ_term.specs.Order.{is_same};
 ghost use Rattle.circ_theory.specs.Observing.{is_hidden};
-ghost use Rattle.circ_theory.specs.Theory.{sides, HasNoConditions, IsWellSortedPair};
+ghost use Rattle.circ_theory.specs.Theory.{sides, IsWellSortedPair};
 ghost use Rattle.circ_theory.specs.Fresh.{fresh_after};
 ghost use Rattle.circ_entry.specs.Plain.{plain_entry, plain_entries};
 ghost use Rattle.circ_refute.specs.PlainRefutation.{conclude, is_pair, refutation};
@@ -20,11 +20,10 @@ use crate::halt::Halt;
 use crate::refuted::Refuted;
 use crate::two_cases::are_two_cases;
 use circ_entry::Entry;
-use circ_memo::Memo;
-use circ_rewrite::laws::theory_rules_are_unconditional;
 use circ_rewrite::theory_rules;
 use circ_term::Term;
 use circ_theory::{Goal, Theory, variables_from};
+use circ_tries::Reducer;
 use std::alloc::{AllocError, Global};
 use std::collections::VecDeque;
 
@@ -34,7 +33,7 @@ use std::collections::VecDeque;
 pub(crate) struct Refuter<'a> {
     pub(crate) alloc: Global,
     pub(crate) theory: &'a Theory,
-    pub(crate) memo: Memo<'a>,
+    pub(crate) reducer: Reducer<'a>,
     pub(crate) expanded: Vec<Descendant>,
     pub(crate) queue: VecDeque<Descendant>,
     pub(crate) rewrites: u64,
@@ -49,20 +48,17 @@ impl<'a> Refuter<'a> {
         rewrites: u64,
         derives: u64,
     ) -> Result<Refuter<'a>, AllocError>
-        requires plain { HasNoConditions theory.now }
         ensures theory { IfOk result (λ r. r.theory.now ≡ theory.now) }
-        ensures memo { IfOk result (λ r. r.memo ≡ rewriting_in theory.now) }
+        ensures reducer { IfOk result (λ r. r.reducer ≡ rewriting_in theory.now) }
         ensures rewrites { IfOk result (λ r. r.rewrites ≡ rewrites) }
         ensures derives { IfOk result (λ r. r.derives ≡ derives) }
     {
-        theory.known();
-        theory_rules_are_unconditional();
         let rules = theory_rules(alloc, theory)?;
-        let memo = Memo::new(alloc, theory, rules)?;
+        let reducer = Reducer::new(alloc, theory, rules)?;
         Ok(Refuter {
             alloc,
             theory,
-            memo,
+            reducer,
             expanded: Vec::new(alloc),
             queue: VecDeque::new(alloc),
             rewrites,
@@ -73,8 +69,7 @@ impl<'a> Refuter<'a> {
     // What is found of a goal, with what is left of the budgets. After want of memory they hold
     // what was left.
     pub(crate) fn refute(&mut self, goal: &Goal) -> Result<Refuted, AllocError>
-        requires plain { HasNoConditions self.old.theory.now }
-        requires memo { self.old.memo ≡ rewriting_in self.old.theory.now }
+        requires reducer { self.old.reducer ≡ rewriting_in self.old.theory.now }
         requires sorted { IsWellSortedPair self.old.theory.now.signature (sides goal.now) }
         requires low { fresh_after goal.now.left goal.now.right ≤ 2 ^ 31 }
         requires few { self.old.derives ≤ 10000 }
@@ -82,7 +77,7 @@ impl<'a> Refuter<'a> {
             self.old.rewrites goal.now ≡ conclude (plain_refuted r) self.new.rewrites
             self.new.derives) }
         ensures theory { self.new.theory ≡ self.old.theory }
-        ensures memo { self.new.memo ≡ self.old.memo }
+        ensures reducer { self.new.reducer ≡ self.old.reducer }
         ensures rewrites { self.new.rewrites ≤ self.old.rewrites }
         ensures derives { self.new.derives ≤ self.old.derives }
     {
@@ -100,7 +95,7 @@ impl<'a> Refuter<'a> {
         ensures origins { OnOk result
             (HaveOrigins self.new.expanded.items self.new.queue.items) }
         ensures theory { self.new.theory ≡ self.old.theory }
-        ensures memo { self.new.memo ≡ self.old.memo }
+        ensures reducer { self.new.reducer ≡ self.old.reducer }
         ensures rewrites { self.new.rewrites ≡ self.old.rewrites }
         ensures derives { self.new.derives ≡ self.old.derives }
     {
@@ -116,14 +111,13 @@ impl<'a> Refuter<'a> {
 
     // Looks at one pair after another, until something is found.
     fn run(&mut self) -> Halt
-        requires plain { HasNoConditions self.old.theory.now }
-        requires memo { self.old.memo ≡ rewriting_in self.old.theory.now }
+        requires reducer { self.old.reducer ≡ rewriting_in self.old.theory.now }
         requires room { HasRoom self.old.theory.now (progress self.old) }
         requires origins { HaveOrigins self.old.expanded.items self.old.queue.items }
         ensures halts { HaltsWith (conclusion_from self.old.theory.now (progress self.old))
             (progress self.new) result }
         ensures theory { self.new.theory ≡ self.old.theory }
-        ensures memo { self.new.memo ≡ self.old.memo }
+        ensures reducer { self.new.reducer ≡ self.old.reducer }
         ensures rewrites { self.new.rewrites ≤ self.old.rewrites }
         ensures derives { self.new.derives ≤ self.old.derives }
     {
@@ -137,8 +131,7 @@ impl<'a> Refuter<'a> {
 
     // The first pair that waits is normalised and looked at.
     fn turn(&mut self) -> Result<(), Halt>
-        requires plain { HasNoConditions self.old.theory.now }
-        requires memo { self.old.memo ≡ rewriting_in self.old.theory.now }
+        requires reducer { self.old.reducer ≡ rewriting_in self.old.theory.now }
         requires room { HasRoom self.old.theory.now (progress self.old) }
         requires origins { HaveOrigins self.old.expanded.items self.old.queue.items }
         ensures goes { GoesOn self.old.theory.now
@@ -147,7 +140,7 @@ impl<'a> Refuter<'a> {
         ensures origins { OnOk result
             (HaveOrigins self.new.expanded.items self.new.queue.items) }
         ensures theory { self.new.theory ≡ self.old.theory }
-        ensures memo { self.new.memo ≡ self.old.memo }
+        ensures reducer { self.new.reducer ≡ self.old.reducer }
         ensures rewrites { self.new.rewrites ≤ self.old.rewrites }
         ensures derives { self.new.derives ≤ self.old.derives }
     {
@@ -157,11 +150,11 @@ impl<'a> Refuter<'a> {
         self.theory.known();
         waiting.left.known();
         waiting.right.known();
-        let left = match self.memo.value(&waiting.left, &mut self.rewrites) {
+        let left = match self.reducer.value(&waiting.left, 0, &mut self.rewrites) {
             Ok(left) => left,
             Err(fault) => return Err(Halt::of_rewrite(fault)),
         };
-        let right = match self.memo.value(&waiting.right, &mut self.rewrites) {
+        let right = match self.reducer.value(&waiting.right, 0, &mut self.rewrites) {
             Ok(right) => right,
             Err(fault) => return Err(Halt::of_rewrite(fault)),
         };
@@ -180,7 +173,7 @@ impl<'a> Refuter<'a> {
         ensures origins { OnOk result
             (HaveOrigins self.new.expanded.items self.new.queue.items) }
         ensures theory { self.new.theory ≡ self.old.theory }
-        ensures memo { self.new.memo ≡ self.old.memo }
+        ensures reducer { self.new.reducer ≡ self.old.reducer }
         ensures rewrites { self.new.rewrites ≡ self.old.rewrites }
         ensures derives { self.new.derives ≤ self.old.derives }
     {
@@ -231,7 +224,7 @@ impl<'a> Refuter<'a> {
         ensures origins { OnOk result
             (HaveOrigins self.new.expanded.items self.new.queue.items) }
         ensures theory { self.new.theory ≡ self.old.theory }
-        ensures memo { self.new.memo ≡ self.old.memo }
+        ensures reducer { self.new.reducer ≡ self.old.reducer }
         ensures rewrites { self.new.rewrites ≡ self.old.rewrites }
         ensures derives { self.new.derives ≤ self.old.derives }
     {

@@ -1,7 +1,7 @@
 //! Whether goals are refuted.
 ghost use Rattle.std.specs.Prelude.{◌≡◌, ◌≤◌, ◌+◌, ◌^◌, [], map, IfOk};
 ghost use Rattle.std.specs.List.{AllByRecursion};
-ghost use Rattle.circ_theory.specs.Theory.{HasNoConditions, IsWellSortedGoal};
+ghost use Rattle.circ_theory.specs.Theory.{IsWellSortedGoal};
 ghost use Rattle.circ_theory.specs.Fresh.{fresh_in};
 ghost use Rattle.circ_plain_search.specs.PlainSearch.{IsSearchable};
 ghost use Rattle.circ_refute.specs.PlainRefutation.{conclude, refutation, refutations, goals_in};
@@ -17,9 +17,9 @@ use circ_theory::{Goal, Theory};
 use std::alloc::{AllocError, Global};
 
 /// Looks for an experiment that leads the sides of a goal without conditions to two different
-/// constants of one case list, in a theory without conditions, with at most so many rewrites and
-/// so many expanded pairs. Both budgets fall by what was used; after want of memory they hold what
-/// was left.
+/// constants of one case list, with at most so many rewrites and tries of conditions, and so many
+/// expanded pairs. Both budgets fall by what was used; after want of memory they hold what was
+/// left.
 pub fn refute(
     alloc: Global,
     theory: &Theory,
@@ -27,7 +27,6 @@ pub fn refute(
     rewrites: &mut u64,
     derives: &mut u64,
 ) -> Result<Refuted, AllocError>
-    requires plain { HasNoConditions theory.now }
     requires sorted { IsWellSortedGoal theory.now goal.now }
     requires no_conds { goal.now.conds ≡ [] }
     requires low { fresh_in goal.now ≤ 2 ^ 31 }
@@ -58,7 +57,6 @@ pub fn refute_all(
     rewrites: &mut u64,
     derives: &mut u64,
 ) -> Result<Decision, AllocError>
-    requires plain { HasNoConditions theory.now }
     requires goals { AllByRecursion (λ b. AllByRecursion (IsSearchable theory.now) b)
         (map (λ b. b.items) blocks.now) }
     requires few { derives.old ≤ 10000 }
@@ -82,8 +80,7 @@ pub fn refute_all(
 impl Refuter<'_> {
     // What is found of the goals of blocks, which are counted from 1.
     fn refute_blocks(&mut self, blocks: &[Vec<Goal>]) -> Result<Decision, AllocError>
-        requires plain { HasNoConditions self.old.theory.now }
-        requires memo { self.old.memo ≡ rewriting_in self.old.theory.now }
+        requires reducer { self.old.reducer ≡ rewriting_in self.old.theory.now }
         requires goals { AllByRecursion
             (λ b. AllByRecursion (IsSearchable self.old.theory.now) b)
             (map (λ b. b.items) blocks.now) }
@@ -110,14 +107,13 @@ impl Refuter<'_> {
 
     // What is found of goals, of which the first has this number.
     fn refute_block(&mut self, first: u64, goals: &[Goal]) -> Result<Decision, AllocError>
-        requires plain { HasNoConditions self.old.theory.now }
-        requires memo { self.old.memo ≡ rewriting_in self.old.theory.now }
+        requires reducer { self.old.reducer ≡ rewriting_in self.old.theory.now }
         requires goals { AllByRecursion (IsSearchable self.old.theory.now) goals.now }
         requires few { self.old.derives ≤ 10000 }
         ensures exact { IfOk result (λ x. refutations self.old.theory.now first self.old.derives
             self.old.rewrites goals.now ≡ plain_decision x self.new.rewrites self.new.derives) }
         ensures theory { self.new.theory ≡ self.old.theory }
-        ensures memo { self.new.memo ≡ self.old.memo }
+        ensures reducer { self.new.reducer ≡ self.old.reducer }
         ensures rewrites { self.new.rewrites ≤ self.old.rewrites }
         ensures derives { self.new.derives ≤ self.old.derives }
     {

@@ -5,7 +5,7 @@ ghost use Rattle.circ_files.specs.Quiet.{IsQuietCall};
 ghost use Rattle.circ_files.specs.TheoryFile.{IsTheoryFault};
 ghost use Rattle.circ_reports.specs.Contexts.{IsContextsText, IsListed};
 
-use circ_contexts::special_contexts;
+use circ_contexts::special_places;
 use circ_files::{Status, take_theory};
 use circ_outer::Shelf;
 use circ_show::contexts_text;
@@ -38,7 +38,7 @@ pub fn contexts<S: Shelf>(
 fn listed(alloc: Global, theory: &Theory, budget: u64) -> Result<Vec<u8>, AllocError>
     ensures { IfOk result (λ v. IsContextsText theory.now budget v.items) }
 {
-    let (gamma, _traces) = special_contexts(alloc, theory, budget)?;
+    let gamma = special_places(alloc, theory, budget)?;
     let mut out = Vec::new(alloc);
     contexts_text(alloc, theory, &gamma, &mut out)?;
     Ok(out)

@@ -16,7 +16,7 @@ use std::alloc::{AllocError, Global};
 use std::{fs, io};
 
 /// The tables, in the order in which they are run.
-const TABLES: [&str; 31] = [
+const TABLES: [&str; 32] = [
     "rows-words",
     "rows-faults",
     "rows-causes",
@@ -45,6 +45,7 @@ const TABLES: [&str; 31] = [
     "rows-expressions",
     "rows-upgrade",
     "rows-differ",
+    "rows-conditional-differ",
     "rows-trace",
     "rows-experiments",
     "rows-expand",

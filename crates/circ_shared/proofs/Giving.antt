@@ -137,14 +137,28 @@ drop_map ts f zero = refl
 drop_map [] f (suc i) = refl
 drop_map (t ∷ ts) f (suc i) = drop_map ts f i
 
-pub terms_at : (nodes : List Tree) (table terms : List ℕ) (i : ℕ) → AllByRecursion (λ n. n < length table) terms → i < length terms
-    → drop i (map (named (map (tree_at nodes) table)) terms)
-    ≡ tree_at nodes (slice_index_or table (slice_index_or terms i 0) 0) ∷ drop (i + 1) (map (named (map (tree_at nodes) table)) terms)
-terms_at nodes table terms i a h =
-    let f : ℕ → Tree = named (map (tree_at nodes) table) in
-    drop_map terms f i ∙ ap (map f) (drop_here terms i h)
-    ∙ ap (λ x. x ∷ map f (drop (i + 1) terms)) (named_in nodes table (slice_index_or terms i 0) (all_there (length table) terms i a h))
-    ∙ ap (λ xs. tree_at nodes (slice_index_or table (slice_index_or terms i 0) 0) ∷ xs) (sym (drop_map terms f (i + 1)))
+pub terms_at : (nodes : List Tree) (terms : List ℕ) (i : ℕ) → i < length terms
+    → drop i (map (tree_at nodes) terms) ≡ tree_at nodes (slice_index_or terms i 0) ∷ drop (i + 1) (map (tree_at nodes) terms)
+terms_at nodes terms i h =
+    drop_map terms (tree_at nodes) i ∙ ap (map (tree_at nodes)) (drop_here terms i h)
+    ∙ ap (λ xs. tree_at nodes (slice_index_or terms i 0) ∷ xs) (sym (drop_map terms (tree_at nodes) (i + 1)))
+
+-- ---- numbers that stand in a table
+
+index_there : (k : ℕ) (table : List ℕ) (n : ℕ) → AllByRecursion (λ m. m < k) table → n < length table → slice_index_or table n 0 < k
+index_there k table n a h = all_there k table n a h
+
+pub all_named : (nodes : List Tree) (table terms : List ℕ) → AllByRecursion (λ n. n < length nodes) table → AllByRecursion (λ n. n < length table) terms
+    → AllByRecursion (λ n. n < length nodes) (map (λ n. slice_index_or table n 0) terms)
+all_named nodes table [] a b = tt
+all_named nodes table (t ∷ ts) a b = (index_there (length nodes) table t a b.0, all_named nodes table ts a b.1)
+
+pub named_by_table : (nodes : List Tree) (table terms : List ℕ) → AllByRecursion (λ n. n < length table) terms
+    → map (tree_at nodes) (map (λ n. slice_index_or table n 0) terms) ≡ map (named (map (tree_at nodes) table)) terms
+named_by_table nodes table [] b = refl
+named_by_table nodes table (t ∷ ts) b =
+    ap (λ x. x ∷ map (tree_at nodes) (map (λ n. slice_index_or table n 0) ts)) (sym (named_in nodes table t b.0))
+    ∙ ap (λ xs. named (map (tree_at nodes) table) t ∷ xs) (named_by_table nodes table ts b.1)
 
 -- ---- what the loop over the variables keeps
 

@@ -2,7 +2,7 @@ mod Made
 mod Loops
 mod Shapes
 mod Replacing
-mod Giving
+pub mod Giving
 mod Seeing
 pub mod Sharing
 mod Paired

@@ -1,5 +1,6 @@
-//! Variables are given the terms of a table.
+//! Variables are given terms.
 ghost use Rattle.std.specs.Prelude.{◌≡◌, ◌<◌, ◌∷◌, [], List, length, map, true, IfOk};
+ghost use Rattle.std.specs.Prelude.{slice_index_or};
 ghost use Rattle.std.specs.List.{AllByRecursion};
 ghost use Rattle.circ_term.specs.Tree.{Tree, Var};
 ghost use Rattle.circ_theory.specs.Variables.{Variable};
@@ -9,12 +10,13 @@ ghost use Rattle.circ_shared.specs.Patterns.{variable_trees};
 ghost use Rattle.circ_shared.specs.Binding.{Binds};
 
 use crate::instances::Made;
-use circ_nodes::Nodes;
-use std::alloc::AllocError;
+use circ_nodes::{Nodes, Numbers};
+use std::alloc::{AllocError, Global};
 
 // Gives the variables the terms, one for each, that go by their numbers in a table. False where
-// the counts or the sorts differ. They are gone through from the last one back.
+// the counts or the sorts differ.
 pub(crate) fn bind(
+    alloc: Global,
     nodes: &Nodes,
     made: &mut Made,
     variables: &[u32],
@@ -29,13 +31,44 @@ pub(crate) fn bind(
         → IfOk result (Binds nodes.now vs
         (map (named (map (tree_at nodes.now) table.now)) terms.now) made.new.entries) }
 {
+    let terms = named_by(alloc, table, terms)?;
+    give(nodes, made, variables, terms.as_slice())
+}
+
+// The numbers that stand in a table at these numbers.
+fn named_by(alloc: Global, table: &[u32], numbers: &[u32]) -> Result<Numbers, AllocError>
+    requires { AllByRecursion (λ n. n < length table.now) numbers.now }
+    ensures { IfOk result (λ v. v.items ≡ map (λ n. slice_index_or table.now n 0) numbers.now) }
+{
+    let mut named = Numbers::new(alloc);
+    for number in numbers {
+        named.push(table[*number as usize])?;
+    }
+    Ok(named)
+}
+
+/// Gives the variables the terms, one for each, all by number: then `made` has the instances of
+/// these variables. False where the counts or the sorts differ. They are gone through from the last
+/// one back.
+pub fn give(
+    nodes: &Nodes,
+    made: &mut Made,
+    variables: &[u32],
+    terms: &[u32],
+) -> Result<bool, AllocError>
+    requires variables { AllByRecursion (λ n. n < length nodes.now) variables.now }
+    requires terms { AllByRecursion (λ n. n < length nodes.now) terms.now }
+    requires empty { made.old.entries ≡ [] }
+    ensures { (vs : List Variable) → AreNamed nodes.now variables.now (variable_trees vs)
+        → IfOk result (Binds nodes.now vs (map (tree_at nodes.now) terms.now)
+        made.new.entries) }
+{
     if variables.len() != terms.len() {
         return Ok(false);
     }
     for done in 0..variables.len() {
         let place = variables.len() - 1 - done;
-        let to = table[terms[place] as usize];
-        if !bind_one(nodes, made, variables[place], to)? {
+        if !bind_one(nodes, made, variables[place], terms[place])? {
             return Ok(false);
         }
     }

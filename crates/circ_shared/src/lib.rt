@@ -21,6 +21,7 @@ mod special;
 mod usage;
 mod variables;
 
+pub use binding::give;
 pub use instances::{Made, instance};
 pub use justifying::constant_of;
 pub use patterns::{Pattern, Sides};

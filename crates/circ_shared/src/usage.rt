@@ -192,7 +192,7 @@ impl Sources<'_> {
     {
         let mut made = Made::new(self.alloc);
         let variables = pattern.variables.as_slice();
-        if !bind(nodes, &mut made, variables, self.table, terms)? {
+        if !bind(self.alloc, nodes, &mut made, variables, self.table, terms)? {
             return Ok(None);
         }
         let sides = pattern.sides.turned(way);

@@ -2,3 +2,6 @@ pub mod Staying
 mod Fronts
 mod Splitting
 mod Entering
+mod Fresh
+mod Numbering
+mod Deriving

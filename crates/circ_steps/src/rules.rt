@@ -10,6 +10,7 @@ ghost use Rattle.circ_rules.specs.Answers.{Applies};
 ghost use Rattle.circ_steps.specs.States.{state_at, with_sides, IsStateThere};
 ghost use Rattle.circ_steps.specs.Judging.{AreRules, terms_at};
 
+use crate::derivative::SharedDerivative;
 use crate::states::SharedState;
 use circ_nodes::Nodes;
 use circ_proof::{Chain, Why};
@@ -18,13 +19,14 @@ use circ_special::Gamma;
 use circ_theory::Theory;
 use std::alloc::{AllocError, Global};
 
-/// What steps are judged by: a theory and its equations by number, a special set, and the numbers
-/// of the terms that links name.
+/// What steps are judged by: a theory, its equations and its derivatives by number, a special set,
+/// and the numbers of the terms that links name.
 #[derive(Clone, Copy)]
 pub struct Rules<'a> {
     pub alloc: Global,
     pub theory: &'a Theory,
     pub equations: &'a [Pattern],
+    pub derivatives: &'a [SharedDerivative],
     pub gamma: &'a Gamma,
     pub table: &'a [u32],
 }

@@ -6,12 +6,14 @@
 #![tactic(auto)]
 
 mod hash_chains;
+mod line;
 mod lines;
 mod named;
 mod open_table;
 mod part;
 mod table;
 
+pub use line::Line;
 pub use named::NamedTerms;
 pub use open_table::OpenTable;
 pub use part::Part;

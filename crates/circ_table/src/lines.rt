@@ -4,9 +4,11 @@ ghost use Rattle.std.specs.Prelude.{[], length, take, drop, Some, IfOk, OnOk, On
 ghost use Rattle.std.specs.List.{slice_get, AllByRecursion};
 ghost use Rattle.std.specs.Option.{option_map};
 ghost use Rattle.circ_term.specs.Tree.{Tree, sort_of, args_of};
+ghost use Rattle.circ_table.specs.Line.{numbers_in, IsLine};
 ghost use Rattle.circ_table.specs.Table.{firsts_at};
 ghost use Rattle.circ_table.specs.Lines.{AreLines, plain, trees, roots, begin_of, picked};
 
+use crate::line::Line;
 use circ_term::Term;
 use std::alloc::{AllocError, Global};
 
@@ -96,6 +98,28 @@ impl Lines {
         self.args.extend_from_slice(args)?;
         self.rows.push_reserved(row);
         Ok(())
+    }
+
+    // What the term of a place is.
+    pub(crate) fn line(&self, place: usize) -> Line<'_>
+        requires lines { AreLines self.now }
+        requires place { place < length self.now.rows.items }
+        ensures line { (t : Tree) → slice_get (trees self.now) place ≡ Some t
+            → IsLine (trees self.now) result t }
+        ensures before { AllByRecursion (λ n. n < place) (numbers_in result) }
+    {
+        let root = self.root(place);
+        match root.kind {
+            Kind::Variable => Line::Variable {
+                number: root.name,
+                sort: root.sort,
+            },
+            Kind::Application => Line::Application {
+                op: root.name,
+                sort: root.sort,
+                args: root.args,
+            },
+        }
     }
 
     // The numbers of the arguments of a term.

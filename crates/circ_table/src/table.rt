@@ -3,9 +3,11 @@ ghost use Rattle.std.specs.Prelude.{◌≡◌, ◌<◌, [], length, Some, IfOk};
 ghost use Rattle.std.specs.List.{slice_get, AllByRecursion};
 ghost use Rattle.std.specs.Option.{option_map};
 ghost use Rattle.circ_term.specs.Tree.{Tree, sort_of, args_of};
+ghost use Rattle.circ_table.specs.Line.{numbers_in, IsLine};
 ghost use Rattle.circ_table.specs.Table.{firsts_at};
 ghost use Rattle.circ_table.specs.Lines.{trees, AreLines};
 
+use crate::line::Line;
 use crate::lines::Lines;
 use circ_term::Term;
 use std::alloc::{AllocError, Global};
@@ -104,6 +106,19 @@ impl Table {
         match &self.held {
             Held::Nothing => Ok(Vec::new(alloc)),
             Held::Lines(lines) => lines.terms(alloc),
+        }
+    }
+
+    /// What the term of a number is.
+    pub fn line(&self, number: u32) -> Line<'_>
+        requires { number < length self.now }
+        ensures line { (t : Tree) → slice_get self.now number ≡ Some t
+            → IsLine self.now result t }
+        ensures before { AllByRecursion (λ n. n < number) (numbers_in result) }
+    {
+        match &self.held {
+            Held::Nothing => unreachable!(),
+            Held::Lines(lines) => lines.line(number as usize),
         }
     }
 

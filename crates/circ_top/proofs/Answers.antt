@@ -17,7 +17,7 @@ use Rattle.circ_top.specs.Causes.{AtFile, HasLongProof, IsPastLimit, IsReadFault
 use Rattle.circ_reports.specs.Check.{report_text, refused, accepted}
 use Rattle.circ_top.specs.Check.{Accepts, Rejects, FilesRead}
 use Rattle.circ_top.specs.Command.{Command, Check, Prove, Show, Contexts, Reduce, Same, Differ, Trace, Regex, Upgrade, Expand, Library, Generate, Asks, IsNotStored, stored_name}
-use Rattle.circ_search.specs.Plain.{plain_limits, manner_with}
+use Rattle.circ_search.specs.Plain.{manner_with}
 use Rattle.circ_top.specs.Scripted.{to_prove, to_differ}
 use Rattle.circ_top.specs.Prove.{IsSearched, StoresProof}
 use Rattle.circ_top.specs.Delivery.{Prints, Delivers, whole, write_failed, memory_wanted, text_wanted}
@@ -148,8 +148,8 @@ module _ (before : ShelfState) where
   work_end (Reduce budget theory script) s text stored a = ok_end s a.0
   work_end (Same first second) s text stored a = (compared_end a.0.compared.word s a.0.compared.status_is).0
   work_end (Differ limits theory script) s text stored a =
-      (difference_end a.th limits.steps limits.derives a.sc.blocks (ending s text stored) a.ends).0
-  work_end (Trace limits theory script) s text stored a = (trace_end a.th (plain_limits limits) a.sc.blocks (ending s text stored) a.ends).0
+      (difference_end a.done.th limits.steps limits.derives a.done.sc.blocks (ending s text stored) a.done.ends).0
+  work_end (Trace limits theory script) s text stored a = (trace_end a.done.th (manner_with limits) a.done.sc.blocks (ending s text stored) a.done.ends).0
   work_end (Regex limits left right proof) s text stored a = search_end LANG (manner_with limits) proof (equality_goals a.e a.f) s text stored a.ends
   work_end (Upgrade theory proof new) s text stored a = ok_end s a.0
   work_end (Expand theory proof goal derivatives) s text stored a = ok_end s a.0
@@ -191,7 +191,7 @@ module _ (before : ShelfState) where
   work_past (Reduce budget theory script) s text stored file n a e = let never : status.Ok ≡ status.TooLong file n = sym a.0 ∙ e in cc
   work_past (Same first second) s text stored file n a e = absurd ((compared_end a.0.compared.word s a.0.compared.status_is).1 file n e)
   work_past (Differ limits theory script) s text stored file n a e =
-      absurd ((difference_end a.th limits.steps limits.derives a.sc.blocks (ending s text stored) a.ends).2 file n e)
+      absurd ((difference_end a.done.th limits.steps limits.derives a.done.sc.blocks (ending s text stored) a.done.ends).2 file n e)
   work_past (Trace limits theory script) s text stored file n a e =
       let P : Status → Type 0 = λ x. IsTraced limits theory script (ending x text stored) before in (text, stored, subst P e a)
   work_past (Regex limits left right proof) s text stored file n a e =
@@ -216,9 +216,9 @@ module _ (before : ShelfState) where
   work_name (Reduce budget theory script) s text stored x a e = nothing_stored stored x a.1.1 e
   work_name (Same first second) s text stored x a e = nothing_stored stored x a.1 e
   work_name (Differ limits theory script) s text stored x a e =
-      nothing_stored stored x (difference_end a.th limits.steps limits.derives a.sc.blocks (ending s text stored) a.ends).1 e
+      nothing_stored stored x (difference_end a.done.th limits.steps limits.derives a.done.sc.blocks (ending s text stored) a.done.ends).1 e
   work_name (Trace limits theory script) s text stored x a e =
-      nothing_stored stored x (trace_end a.th (plain_limits limits) a.sc.blocks (ending s text stored) a.ends).1 e
+      nothing_stored stored x (trace_end a.done.th (manner_with limits) a.done.sc.blocks (ending s text stored) a.done.ends).1 e
   work_name (Regex limits left right proof) s text stored x a e =
       let P : Option Stored → Type 0 = λ y. SearchEnds LANG (manner_with limits) proof (equality_goals a.e a.f) (ending s text y) in
       ap Some (sym (search_name LANG (manner_with limits) proof (equality_goals a.e a.f) s text x (subst P e a.ends)))
@@ -347,18 +347,13 @@ module _ (words : List (List ℕ)) (before after : ShelfState) (start end : Sink
       done c d text stored j x e p q =
           let P : Command → Type 0 = λ y. Comes y d text stored before in
           let Q : Status → Type 0 = λ y. IsDifferenceSought limits theory script (ending y text stored) before in
-          let w = subst Q e (subst P (same_command words c (Differ limits theory script) j i) x) in
+          let w = (subst Q e (subst P (same_command words c (Differ limits theory script) j i) x)).done in
           let y = told_apart w.th limits.steps limits.derives w.sc.blocks n text stored w.ends in
           let T : List ℕ → Type 0 = λ z. Prints z start end in
           record {
             th = w.th;
             sc = w.sc;
-            takes_theory = record {
-              bytes = w.takes_theory.bytes;
-              well_formed = w.takes_theory.well_formed;
-              plain = w.takes_theory.bytes.are.plain;
-              reads = w.takes_theory.reads;
-            };
+            takes_theory = record { bytes = w.takes_theory.bytes; well_formed = w.takes_theory.well_formed; reads = w.takes_theory.reads };
             takes_script = w.takes_script;
             goal = w.ends.decision.goal;
             told_apart = y.told_apart;

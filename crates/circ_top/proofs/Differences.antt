@@ -27,11 +27,11 @@ one_difference limits th blocks d e a b = sym a ∙ b
 pub difference_done : (limits : Limits) (theory script : List ℕ) (e : Ending) (before : ShelfState) → IsDifferenceSought limits theory script e before
     → IsDoneOn to_differ theory script (DifferenceSought limits) e before
 difference_done limits theory script e before a = record {
-  th = a.th;
-  sc = a.sc;
-  ends = ap (decision_ending a.th limits.steps limits.derives) a.ends.found ∙ a.ends.is;
-  takes_theory = a.takes_theory;
-  takes_script = a.takes_script;
+  th = a.done.th;
+  sc = a.done.sc;
+  ends = ap (decision_ending a.done.th limits.steps limits.derives) a.done.ends.found ∙ a.done.ends.is;
+  takes_theory = a.done.takes_theory;
+  takes_script = a.done.takes_script;
 }
 
 -- it ends as a search may, stores nothing, and never since a text is too long

@@ -26,7 +26,7 @@ use Rattle.circ_top.specs.Outcome.{Outcome, usage, command}
 use Rattle.circ_files.specs.ProofFile.{ProofRefusal}
 use Rattle.circ_reports.specs.Reduce.{reduced, results_text, not_reduced, all_reduced}
 use Rattle.circ_reports.specs.Reduce as reduce
-use Rattle.circ_search.specs.Plain.{plain_limits, manner_with}
+use Rattle.circ_search.specs.Plain.{manner_with}
 use Rattle.circ_auto.specs.Text.{ReadsAsAutomaton}
 use Rattle.circ_reports.specs.Same.{AutomatonRefusal, SecondRefusal, ReadsOver, compared_status, compared_text, no_first, no_second, compared}
 use Rattle.circ_reports.proofs.SameDecides.{AutomataDecided, first_decides, second_decides, compared_decides}
@@ -55,8 +55,7 @@ use Rattle.circ_files.specs.ScriptFile.{ScriptRefusal}
 use Rattle.circ_reports.specs.Show.{not_shown, shown}
 use Rattle.circ_files.specs.Texts.{refused_text}
 use Rattle.circ_top.specs.Refusals.{usage_text, refusal_text}
-use Rattle.circ_files.specs.TheoryFile.{TheoryRefusal, ReadsAsPlain, PlainTheoryRefusal}
-use Rattle.circ_files.proofs.Readings.{plain_or_refused}
+use Rattle.circ_files.specs.TheoryFile.{TheoryRefusal}
 use Rattle.circ_files.specs.declared.files.TheConstants.{MOST_BYTES}
 use Rattle.circ_reports.specs.declared.report.Report.{Report}
 use Rattle.circ_turn.specs.declared.search.Limits.{Limits}
@@ -109,9 +108,6 @@ module _ (reads : (bytes : List ℕ) → ReadOrRefused bytes) (proofs : ProofsDe
     (automata : AutomataDecided)
     (searches : (th : Theory) (blocks : List (List Goal)) (manner : Manner) → ((f : Found) → ConditionalSearch th blocks manner f → ⊥) → ⊥) (words : List (List ℕ)) (held : Held)
     (none_is : (s : Status) (text : List ℕ) (stored : Option Stored) → Outcome words held s text stored → ⊥) where
-  plain_reads : (bytes : List ℕ) → ((th : Theory) → ReadsAsPlain bytes th → ⊥) → ((n : ℕ) (c : Cause) → PlainTheoryRefusal n c bytes → ⊥) → ⊥
-  plain_reads bytes = plain_or_refused bytes (reads bytes)
-
   no_check : (report : Report) (theory proof : List ℕ) → Asks words (Check report theory proof) → HoldsFilesOf held (Check report theory proof) → ⊥
   no_check report theory proof i h = file_decides held 1 theory TheoryRefusal ReadsAs h.0 reads
       (λ th rt. file_decides held 2 proof (ProofRefusal th) (ReadsAsProof th) h.1
@@ -169,7 +165,7 @@ module _ (reads : (bytes : List ℕ) → ReadOrRefused bytes) (proofs : ProofsDe
       (command (Prove limits theory script proof) s text None i (scripted.no_theory s x)))
 
   no_differ : (limits : Limits) (theory script : List ℕ) → Asks words (Differ limits theory script) → HoldsFilesOf held (Differ limits theory script) → ⊥
-  no_differ limits theory script i h = file_decides held 1 theory PlainTheoryRefusal ReadsAsPlain h.0 plain_reads
+  no_differ limits theory script i h = file_decides held 1 theory TheoryRefusal ReadsAs h.0 reads
       (λ th rt. file_decides held 2 script (ScriptRefusal th job.Differ) (ReadsAsScript th job.Differ) h.1 (scripts th job.Differ)
       (λ q rq. let e : Ending = decision_ending th limits.steps limits.derives (refutations th 1 limits.derives limits.steps (goals_in q.blocks)) in
       none_is e.status e.text e.stored
@@ -182,7 +178,7 @@ module _ (reads : (bytes : List ℕ) → ReadOrRefused bytes) (proofs : ProofsDe
   no_trace : (limits : Limits) (theory script : List ℕ) → Asks words (Trace limits theory script) → HoldsFilesOf held (Trace limits theory script) → ⊥
   no_trace limits theory script i h = file_decides held 1 theory TheoryRefusal ReadsAs h.0 reads
       (λ th rt. file_decides held 2 script (ScriptRefusal th job.Prove) (ReadsAsScript th job.Prove) h.1 (scripts th job.Prove)
-      (λ q rq. some_trace th (plain_limits limits) q.blocks
+      (λ q rq. some_trace th (manner_with limits) q.blocks
       (λ e x. none_is e.status e.text e.stored
       (command (Trace limits theory script) e.status e.text e.stored i (goals_done e.status e.text e.stored th q rt rq x))))
       (λ s x. let text : List ℕ = refusal_text (Trace limits theory script) s in none_is s text None

@@ -88,7 +88,7 @@ due_work (Differ limits theory script) s text stored before t a =
     done_outcome to_differ (Differ limits theory script) theory script (DifferenceSought limits) before before s text stored t
     (difference_done limits theory script (ending s text stored) before a)
 due_work (Trace limits theory script) s text stored before t a =
-    done_outcome to_prove (Trace limits theory script) theory script (TraceSought limits) before before s text stored t a
+    done_outcome to_prove (Trace limits theory script) theory script (TraceSought limits) before before s text stored t a.done
 due_work (Regex limits left right proof) s text stored before t a = equality_outcome limits left right proof s text stored a
 due_work (Upgrade theory proof new) s text stored before t a =
     let P : Status → Type 0 = λ x. UpgradeOutcome before.holds theory proof new x text stored in
@@ -179,7 +179,7 @@ module _ (once : ReadsOnce) (proofs : ProofsOnce) (scripts : ScriptsOnce) (autom
       before after t r given other (difference_done limits theory script (ending r given other) before a) s text stored c
   work_agrees (Trace limits theory script) s r text given stored other c a =
       done_agrees to_prove (to_prove_once once) scripts (Trace limits theory script) theory script (TraceSought limits) (one_trace limits)
-      before after t r given other a s text stored c
+      before after t r given other a.done s text stored c
   work_agrees (Regex limits left right proof) s r text given stored other c a =
       equality_agrees limits left right proof expressions searches before after r given other a s text stored c
   work_agrees (Upgrade theory proof new) s r text given stored other c a =

@@ -13,7 +13,7 @@ use Rattle.circ_files.specs.declared.status.Status.{Status}
 use Rattle.circ_files.specs.declared.status.Status.TheVariants as status
 use Rattle.circ_files.proofs.FileFaults.{FaultOf, fault_of, refuses, unread, out_of_memory, reads_not_refused, refused_held, holds_held, IsOneWay}
 use Rattle.circ_files.proofs.FileFaults.{unread_rose, file_fault_not_ok, file_fault_not_refused}
-use Rattle.circ_files.proofs.Readings.{ReadsOnce, reads_plain_once}
+use Rattle.circ_files.proofs.Readings.{ReadsOnce}
 use Rattle.circ_files.proofs.Scripts.{ScriptsOnce}
 use Rattle.circ_files.specs.Ending.{Stored, Ending, ending}
 use Rattle.circ_top.specs.Causes.{AtEither}
@@ -78,7 +78,7 @@ pub to_prove_once : ReadsOnce → TakenOnce to_prove
 to_prove_once once = record { either = once.either; alike = once.alike }
 
 pub to_differ_once : ReadsOnce → TakenOnce to_differ
-to_differ_once once = let plain = reads_plain_once once in record { either = plain.either; alike = plain.alike }
+to_differ_once once = record { either = once.either; alike = once.alike }
 
 -- work on goals ends in one way
 abbrev pub EndsOnce : GoalsEnd → Type 0

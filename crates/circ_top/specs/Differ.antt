@@ -13,9 +13,10 @@ use Rattle.circ_refute.specs.PlainRefutation.{refutations, goals_in}
 use Rattle.circ_refute.specs.Difference.{DiffersBy}
 use Rattle.circ_files.specs.Files.{Held}
 use Rattle.circ_files.specs.ScriptFile.{TakesScript}
-use Rattle.circ_files.specs.TheoryFile.{TakesPlainTheory}
+use Rattle.circ_files.specs.TheoryFile.{TakesTheory}
 use Rattle.circ_files.specs.declared.status.Status.{Status}
 use Rattle.circ_found.specs.Differing.{differs_text, decision_ending, DifferEnds}
+use Rattle.circ_found.specs.Searchable.{ArePlainlySearchable}
 use Rattle.circ_files.specs.Ending.{Stored, Ending}
 use Rattle.circ_top.specs.Command.{Differ}
 use Rattle.circ_top.specs.Delivery.{Prints}
@@ -31,17 +32,17 @@ abbrev pub DifferOutcome : Held → Limits → (theory script : List ℕ) → St
 DifferOutcome held limits theory script s text stored =
     ScriptOutcome to_differ held (Differ limits theory script) theory script (DifferenceSought limits) s text stored
 
--- The two files read, looking for a difference of the script's goals ends so, and what is found is right.
-abbrev pub IsDifferenceSought : Limits → (theory script : List ℕ) → Ending → (before : ShelfState) → Type 0
-IsDifferenceSought limits theory script e before =
-    IsDoneOn to_differ theory script (λ th blocks end. DifferEnds th limits.steps limits.derives blocks end) e before
+-- The two files read, the script's goals can be searched, looking for a difference of them ends so, and what is found is right.
+pub record IsDifferenceSought (limits : Limits) (theory script : List ℕ) (e : Ending) (before : ShelfState) : Type 0 where
+  pub done : IsDoneOn to_differ theory script (λ th blocks end. DifferEnds th limits.steps limits.derives blocks end) e before
+  pub searchable : ArePlainlySearchable done.th done.sc.blocks
 
 -- Status 11 of `differ`: the two files read, and the experiment that is printed, of n entries, fits goal number `goal` of the script, counted from 1, and
 -- leads its sides to two different constants of one case list, by derivations from the theory. The outside did not fail.
 pub record TellsApart (theory script : List ℕ) (n : ℕ) (before after : ShelfState) (start end : SinkState) : Type 0 where
   pub th : Theory
   pub sc : Script
-  pub takes_theory : TakesPlainTheory theory th before
+  pub takes_theory : TakesTheory theory th before
   pub takes_script : TakesScript script th job.Differ sc before
   pub goal : ℕ
   pub told_apart : Goal

@@ -10,7 +10,7 @@ use Rattle.circ_script.specs.declared.job.Job.{Job}
 use Rattle.circ_script.specs.declared.job.Job.TheVariants as job
 use Rattle.circ_files.specs.Files.{Held, IsOnly, AreBytes, Holds, Refusal, RefusesFile, IsFileFault}
 use Rattle.circ_files.specs.ScriptFile.{ReadsScript, TakesScript, ScriptRefusal, IsScriptFault}
-use Rattle.circ_files.specs.TheoryFile.{TheoryRefusal, ReadsAsPlain, PlainTheoryRefusal}
+use Rattle.circ_files.specs.TheoryFile.{TheoryRefusal}
 use Rattle.circ_files.specs.declared.status.Status.{Status}
 use Rattle.circ_files.specs.Ending.{Stored, Ending, ending}
 use Rattle.circ_top.specs.Command.{Command}
@@ -30,9 +30,9 @@ pub record Taking : Type 1 where
 abbrev pub to_prove : Taking
 to_prove = record { Reads = ReadsAs; Refuses = TheoryRefusal; job = job.Prove }
 
--- `differ` leaves conditions out, those of the theory and those of goals.
+-- `differ` takes any theory, and goals without conditions.
 abbrev pub to_differ : Taking
-to_differ = record { Reads = ReadsAsPlain; Refuses = PlainTheoryRefusal; job = job.Differ }
+to_differ = record { Reads = ReadsAs; Refuses = TheoryRefusal; job = job.Differ }
 
 -- The named file reads for the command as th.
 abbrev pub ReadsFor : Taking → Held → (name : List ℕ) → Theory → Type 0

@@ -6,7 +6,7 @@ ghost use Rattle.circ_files.specs.Ending.{plain_ending};
 ghost use Rattle.circ_top.specs.Differ.{IsDifferenceSought};
 ghost use Rattle.circ_top.specs.Scripted.{to_differ, RefusesScript};
 
-use circ_files::{Ending, Status, take_plain_theory, take_script};
+use circ_files::{Ending, Status, take_script, take_theory};
 use circ_found::{differ as look_for_difference, plainly_searchable};
 use circ_outer::Shelf;
 use circ_script::Job;
@@ -30,7 +30,7 @@ pub(crate) fn differ<'a, S: Shelf>(
     ensures quiet { IsQuietCall (S.state shelf.old) (S.state shelf.new) result }
     ensures frame { ShelfFrame (S.state shelf.old) (S.state shelf.new) }
 {
-    let mut theory = match take_plain_theory(alloc, shelf, theory) {
+    let mut theory = match take_theory(alloc, shelf, theory) {
         Ok(theory) => theory,
         Err(status) => return Err(status),
     };

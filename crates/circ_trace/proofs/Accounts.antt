@@ -1,5 +1,5 @@
 -- The account of a turn, by what normalising, Join and the lemma pass come to.
-use Rattle.std.proofs.Common.{◌≡◌, ℕ, List, [], ◌++◌, Option, Some, None, Result, Ok, Err, refl, ap, sym, subst, ◌∙◌}
+use Rattle.std.proofs.Common.{◌≡◌, ℕ, Bool, List, [], ◌++◌, Option, Some, None, Result, Ok, Err, refl, ap, sym, subst, ◌∙◌}
 use Rattle.std.specs.Prelude.{◌≢◌, IfOk, OnOk}
 use Rattle.circ_term.specs.Tree.{Tree}
 use Rattle.circ_theory.specs.Theory.{Theory, Pair, goal}
@@ -22,7 +22,7 @@ use Rattle.circ_memo.specs.Value.{Rewriting}
 use Rattle.circ_join.specs.Trying.{normaliser_of, Works}
 use Rattle.circ_turn.specs.Ending.{reducing}
 use Rattle.circ_plain_search.specs.BlockRules.{hidden_lemmas}
-use Rattle.circ_trace.specs.Account.{Deed, Ends, account_with, numbers_of, deed_by, passes_by, join_deed, deed_on, account_of, plain_deed, plain_account_if}
+use Rattle.circ_trace.specs.Account.{Deed, Ends, numbers_of, deed_by, passes_by, join_deed, account_on, account_of, plain_deed, plain_account_if}
 use Rattle.circ_trace.specs.declared.account.Account.{Account as TheAccount}
 use Rattle.circ_trace.specs.declared.account.Deed.{Deed as TheDeed}
 
@@ -106,24 +106,24 @@ module _ (th : Theory) (G : List Place) (E : List Goal) (g : Goal) where
   both_swept a b k m left s t r is =
       first_made a m (swept_from g.left k) with_right by_pass s r (first_made b left (swept_from g.right m) (λ b l. Made (a, b) l) by_pass t r is)
 
-module _ (th : Theory) (G : List Place) (st : Standing) (A : List Pair) where
-  stopped : (e : TheStop) (r : Result Sides Stop) → Stops r e → e ≢ stop.Memory → account_of th G st A r ≡ None
-  stopped stop.Spent r h n = ap (account_of th G st A) h
-  stopped (stop.TooBig x) r h n = ap (account_of th G st A) h
-  stopped (stop.TooDeep x) r h n = ap (account_of th G st A) h
-  stopped (stop.Stuck s t B) r h n = ap (account_of th G st A) h
+module _ (th : Theory) (G : List Place) (split : Bool) (st : Standing) (A : List Pair) where
+  stopped : (e : TheStop) (r : Result Sides Stop) → Stops r e → e ≢ stop.Memory → account_of th G split st A r ≡ None
+  stopped stop.Spent r h n = ap (account_of th G split st A) h
+  stopped (stop.TooBig x) r h n = ap (account_of th G split st A) h
+  stopped (stop.TooDeep x) r h n = ap (account_of th G split st A) h
+  stopped (stop.Stuck s t B) r h n = ap (account_of th G split st A) h
   stopped stop.Memory r h n = absurd (n refl)
 
   -- there is none where the search ends while the goal in hand is normalised
   pub no_account : {E : Type 0} (e : TheStop) (n : Result Sides Stop) → Stops n e → (r : Result (Option TheAccount) E)
-      → IfOk r (λ o. plain_account_if o ≡ None) → OnOk r (e ≢ stop.Memory) → IfOk r (λ o. plain_account_if o ≡ account_of th G st A n)
+      → IfOk r (λ o. plain_account_if o ≡ None) → OnOk r (e ≢ stop.Memory) → IfOk r (λ o. plain_account_if o ≡ account_of th G split st A n)
   no_account e n h (Ok o) is m = is ∙ sym (stopped e n h m)
   no_account e n h (Err x) is m = tt
 
   pub some_account : {E : Type 0} (n : Sides) (s : Result Sides Stop) → s ≡ Ok n → (g : Goal) → g.conds ≡ A → g.left ≡ n.left → g.right ≡ n.right
-      → (r : Result (Option TheAccount) E) → IfOk r (λ o. plain_account_if o ≡ Some (account_with g.left g.right (deed_on th G st g n.budget)))
-      → IfOk r (λ o. plain_account_if o ≡ account_of th G st A s)
+      → (r : Result (Option TheAccount) E) → IfOk r (λ o. plain_account_if o ≡ Some (account_on th G split st g n.budget))
+      → IfOk r (λ o. plain_account_if o ≡ account_of th G split st A s)
   some_account n s h g cs ls rs (Ok o) is =
       let whole : g ≡ goal A n.left n.right = ap (λ c. goal c g.left g.right) cs ∙ ap (λ t. goal A t g.right) ls ∙ ap (goal A n.left) rs in
-      is ∙ ap (λ x. Some (account_with x.left x.right (deed_on th G st x n.budget))) whole ∙ sym (ap (account_of th G st A) h)
+      is ∙ ap (λ x. Some (account_on th G split st x n.budget)) whole ∙ sym (ap (account_of th G split st A) h)
   some_account n s h g cs ls rs (Err x) is = tt

@@ -1,4 +1,4 @@
--- Lines and parents one after another.
+-- Lines, and goals that wait, one after another.
 use Rattle.std.proofs.Common.{◌≡◌, ◌<◌, ◌+◌, ◌==◌, ℕ, Bool, true, false, List, [], ◌∷◌, ◌++◌, length, drop, if◌then◌else◌, ap, sym, ◌∙◌, append_assoc}
 use Rattle.std.specs.Prelude.{codes, flat_map}
 use Rattle.std.specs.List.{slice_get}
@@ -7,9 +7,10 @@ use Rattle.circ_theory.specs.Signature.{Signature}
 use Rattle.circ_theory.specs.Theory.{Derivative}
 use Rattle.circ_theory.specs.declared.parts.Goal.{Goal}
 use Rattle.circ_proof.proofs.Derivatives.{StartsWith, derivative_at}
-use Rattle.circ_trace.specs.Parents.{parent, parents_from}
+use Rattle.circ_trace.specs.Descents.{derived_row}
 use Rattle.circ_trace.specs.TurnText.{hypothesis_text, further_hypothesis, shown_goal, hypothesis_lines}
-use Rattle.circ_trace.specs.declared.parent.Parent.{Parent}
+use Rattle.circ_trace.specs.declared.descent.Descent.{Descent}
+use Rattle.circ_trace.specs.declared.descent.Descent.TheVariants.{Derived}
 
 -- one more hypothesis, of number m
 pub one_line : (sig : Signature) (out new whole : List ℕ) (n m : ℕ) (g : Goal) (gs rest : List Goal) → gs ≡ g ∷ rest → m ≡ n + 1
@@ -28,19 +29,19 @@ one_other out new whole n ns rest e a h =
     ap (λ x. x ++ flat_map further_hypothesis rest) a ∙ append_assoc out (further_hypothesis n) (flat_map further_hypothesis rest)
     ∙ ap (λ x. out ++ flat_map further_hypothesis x) (sym e) ∙ h
 
-module _ (ds : List Derivative) (n s i : ℕ) (h : i < length ds) (ps whole : List Parent) (so : ps ++ parents_from n s i (drop i ds) ≡ whole) where
+module _ (ds : List Derivative) (n s i : ℕ) (h : i < length ds) (ps whole : List Descent) (so : ps ++ derived_row n s i (drop i ds) ≡ whole) where
   next : (b : Bool) (d : Derivative) → StartsWith ds i d → option_map_or (λ x. x.hole == s) (slice_get ds i) false ≡ b
-      → parents_from n s i (drop i ds)
-      ≡ (if b then parent n i ∷ parents_from n s (i + 1) (drop (i + 1) ds) else parents_from n s (i + 1) (drop (i + 1) ds))
+      → derived_row n s i (drop i ds)
+      ≡ (if b then Derived n i ∷ derived_row n s (i + 1) (drop (i + 1) ds) else derived_row n s (i + 1) (drop (i + 1) ds))
   next b d w e =
       let t : (d.hole == s) ≡ b = sym (ap (λ o. option_map_or (λ x. x.hole == s) o false) w.there) ∙ e in
-      ap (parents_from n s i) w.rest
-      ∙ ap (λ c. if c then parent n i ∷ parents_from n s (i + 1) (drop (i + 1) ds) else parents_from n s (i + 1) (drop (i + 1) ds)) t
+      ap (derived_row n s i) w.rest
+      ∙ ap (λ c. if c then Derived n i ∷ derived_row n s (i + 1) (drop (i + 1) ds) else derived_row n s (i + 1) (drop (i + 1) ds)) t
 
-  pub parent_taken : option_map_or (λ x. x.hole == s) (slice_get ds i) false ≡ true → (ps ++ parent n i ∷ []) ++ parents_from n s (i + 1) (drop (i + 1) ds) ≡ whole
-  parent_taken e =
+  pub derivative_taken : option_map_or (λ x. x.hole == s) (slice_get ds i) false ≡ true → (ps ++ Derived n i ∷ []) ++ derived_row n s (i + 1) (drop (i + 1) ds) ≡ whole
+  derivative_taken e =
       let d = derivative_at ds i h in
-      append_assoc ps (parent n i ∷ []) (parents_from n s (i + 1) (drop (i + 1) ds)) ∙ ap (λ x. ps ++ x) (sym (next true d.0 d.1 e)) ∙ so
+      append_assoc ps (Derived n i ∷ []) (derived_row n s (i + 1) (drop (i + 1) ds)) ∙ ap (λ x. ps ++ x) (sym (next true d.0 d.1 e)) ∙ so
 
-  pub parent_passed : option_map_or (λ x. x.hole == s) (slice_get ds i) false ≡ false → ps ++ parents_from n s (i + 1) (drop (i + 1) ds) ≡ whole
-  parent_passed e = let d = derivative_at ds i h in ap (λ x. ps ++ x) (sym (next false d.0 d.1 e)) ∙ so
+  pub derivative_passed : option_map_or (λ x. x.hole == s) (slice_get ds i) false ≡ false → ps ++ derived_row n s (i + 1) (drop (i + 1) ds) ≡ whole
+  derivative_passed e = let d = derivative_at ds i h in ap (λ x. ps ++ x) (sym (next false d.0 d.1 e)) ∙ so

@@ -1,5 +1,5 @@
 -- Lines behind lines, turn by turn.
-use Rattle.std.proofs.Common.{◌≡◌, ◌+◌, ℕ, List, [], ◌∷◌, ◌++◌, Result, Ok, Err, refl, ap, sym, subst, ◌∙◌, append_assoc}
+use Rattle.std.proofs.Common.{◌≡◌, ℕ, List, [], ◌∷◌, ◌++◌, Result, Ok, Err, refl, ap, sym, subst, ◌∙◌, append_assoc}
 use Rattle.circ_theory.specs.Theory.{Theory}
 use Rattle.circ_special.specs.declared.place.Place.{Place}
 use Rattle.circ_plain_search.specs.Search.{Standing, Ending}
@@ -10,11 +10,11 @@ use Rattle.circ_turn.specs.Ending.{RunEnds}
 use Rattle.circ_turn.specs.declared.end.End.{End}
 use Rattle.circ_turn.specs.declared.end.End.TheVariants as end
 use Rattle.circ_trace.specs.Account.{account}
-use Rattle.circ_trace.specs.Parents.{parents_after}
+use Rattle.circ_trace.specs.Descents.{after_turn, given_row}
 use Rattle.circ_trace.specs.TurnText.{turn_text}
 use Rattle.circ_trace.specs.Tracing.{Turns, ends, goes, turns_text}
 use Rattle.circ_trace.specs.Telling.{IsTold}
-use Rattle.circ_trace.specs.declared.parent.Parent.{Parent}
+use Rattle.circ_trace.specs.declared.descent.Descent.{Descent}
 
 -- a run that ends for want of memory says nothing
 pub memory_ends : {X : Type 0} (R : Ending → Type 0) (st : Standing) (r : Result X End) → (e : End) × (r ≡ Err e) × (e ≡ end.Memory) → RunEnds R st r
@@ -22,35 +22,35 @@ memory_ends {X = X} R st r p = let P : Result X End → Type 0 = λ x. RunEnds R
 
 module _ (th : Theory) (G : List Place) (m : Manner) where
   -- Whatever turns come from here, their lines come behind those so far.
-  abbrev pub GoesOn : (first : Standing) → (old : List ℕ) → List Parent → Standing → (lines : List ℕ) → Type 0
-  GoesOn first old ps st lines =
-      (sts : List Standing) (e : Ending) → Turns th G m st sts e → IsTold th G m first old (lines ++ turns_text th G ps sts) e
+  abbrev pub GoesOn : (first : Standing) → (old : List ℕ) → List Descent → Standing → (lines : List ℕ) → Type 0
+  GoesOn first old ws st lines =
+      (sts : List Standing) (e : Ending) → Turns th G m st sts e → IsTold th G m first old (lines ++ turns_text th G m.split ws sts) e
 
-  pub from_start : (first : Standing) (old : List ℕ) → GoesOn first old [] first old
+  pub from_start : (first : Standing) (old : List ℕ) → GoesOn first old (given_row first.goals) first old
   from_start first old = λ sts e t. record { standings = sts; turns = t; appended = refl }
 
-  abbrev lines_of : List Parent → Standing → List ℕ
-  lines_of ps st = turn_text th ps st (account th G st)
+  abbrev lines_of : List Descent → Standing → List ℕ
+  lines_of ws st = turn_text th ws st (account th G m.split st)
 
-  abbrev next_parents : List Parent → Standing → List Parent
-  next_parents ps st = parents_after th ps (st.taken + 1) (account th G st)
+  abbrev next_waiting : List Descent → Standing → List Descent
+  next_waiting ws st = after_turn th ws st (account th G m.split st)
 
-  pub one_more : (first : Standing) (old : List ℕ) (ps qs : List Parent) (st next : Standing) (lines new : List ℕ) → GoesOn first old ps st lines
-      → turn_trying th G m st ≡ Ok next → new ≡ lines ++ lines_of ps st → qs ≡ next_parents ps st → GoesOn first old qs next new
-  one_more first old ps qs st next lines new c t a b = λ sts e r.
+  pub one_more : (first : Standing) (old : List ℕ) (ws vs : List Descent) (st next : Standing) (lines new : List ℕ) → GoesOn first old ws st lines
+      → turn_trying th G m st ≡ Ok next → new ≡ lines ++ lines_of ws st → vs ≡ next_waiting ws st → GoesOn first old vs next new
+  one_more first old ws vs st next lines new c t a b = λ sts e r.
       let all = c (st ∷ sts) e (goes st next sts e t r) in
       let P : List ℕ → Type 0 = λ x. IsTold th G m first old x e in
-      let is : lines ++ (lines_of ps st ++ turns_text th G (next_parents ps st) sts) ≡ new ++ turns_text th G qs sts
-      = sym (append_assoc lines (lines_of ps st) (turns_text th G (next_parents ps st) sts))
-      ∙ ap (λ x. x ++ turns_text th G (next_parents ps st) sts) (sym a) ∙ ap (λ x. new ++ turns_text th G x sts) (sym b) in
+      let is : lines ++ (lines_of ws st ++ turns_text th G m.split (next_waiting ws st) sts) ≡ new ++ turns_text th G m.split vs sts
+      = sym (append_assoc lines (lines_of ws st) (turns_text th G m.split (next_waiting ws st) sts))
+      ∙ ap (λ x. x ++ turns_text th G m.split (next_waiting ws st) sts) (sym a) ∙ ap (λ x. new ++ turns_text th G m.split x sts) (sym b) in
       subst P is all
 
-  pub the_last : (first : Standing) (old : List ℕ) (ps : List Parent) (st : Standing) (e : Ending) (lines new : List ℕ) → GoesOn first old ps st lines
-      → turn_trying th G m st ≡ Err e → new ≡ lines ++ lines_of ps st → IsTold th G m first old new e
-  the_last first old ps st e lines new c t a =
+  pub the_last : (first : Standing) (old : List ℕ) (ws : List Descent) (st : Standing) (e : Ending) (lines new : List ℕ) → GoesOn first old ws st lines
+      → turn_trying th G m st ≡ Err e → new ≡ lines ++ lines_of ws st → IsTold th G m first old new e
+  the_last first old ws st e lines new c t a =
       let all = c (st ∷ []) e (ends st e t) in
       let P : List ℕ → Type 0 = λ x. IsTold th G m first old x e in
-      subst P (ap (λ x. lines ++ x) (nil_right (lines_of ps st)) ∙ sym a) all
+      subst P (ap (λ x. lines ++ x) (nil_right (lines_of ws st)) ∙ sym a) all
     where
       nil_right : (xs : List ℕ) → xs ++ [] ≡ xs
       nil_right [] = refl

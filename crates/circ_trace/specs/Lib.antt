@@ -1,5 +1,5 @@
 pub mod Account
-pub mod Parents
+pub mod Descents
 pub mod Telling
 pub mod Tracing
 pub mod TurnText

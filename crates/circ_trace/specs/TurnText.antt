@@ -10,9 +10,10 @@ use Rattle.circ_theory.specs.declared.parts.Goal.{Goal}
 use Rattle.circ_mixfix.specs.Printing.{text_of_term, text_of_goal}
 use Rattle.circ_plain_search.specs.Joining.{first_open}
 use Rattle.circ_plain_search.specs.Search.{Standing}
-use Rattle.circ_trace.specs.Account.{Account, Deed, Joins, Passes, Opens, Ends}
-use Rattle.circ_trace.specs.Parents.{parent_of}
-use Rattle.circ_trace.specs.declared.parent.Parent.{Parent}
+use Rattle.circ_trace.specs.Account.{Account, Deed, Joins, Passes, Cases, Opens, Ends}
+use Rattle.circ_trace.specs.Descents.{first_descent}
+use Rattle.circ_trace.specs.declared.descent.Descent.{Descent}
+use Rattle.circ_trace.specs.declared.descent.Descent.TheVariants.{Given, Derived, Case}
 
 -- a term, or, where it has more than 1,000 nodes, how many
 abbrev pub shown : Signature → Tree → List ℕ
@@ -41,13 +42,18 @@ block_text st = codes "block " ++ decimal (length st.finished + 1)
 abbrev pub derivative_text : Theory → (number : ℕ) → List ℕ
 derivative_text th i = option_map_or (text_of_term th.signature true) (option_map (λ d. d.body) (slice_get th.derivatives i)) []
 
-abbrev pub parent_text : Theory → Option Parent → List ℕ
-parent_text th None = []
-parent_text th (Some p) = codes " = " ++ derivative_text th p.derivative ++ codes " of goal " ++ decimal p.goal
+abbrev pub of_goal : (number : ℕ) → List ℕ
+of_goal n = codes " of goal " ++ decimal n
+
+-- cases are counted from 1
+abbrev pub descent_text : Theory → Descent → List ℕ
+descent_text th Given = []
+descent_text th (Derived n i) = codes " = " ++ derivative_text th i ++ of_goal n
+descent_text th (Case n k) = codes " = case " ++ decimal k ++ of_goal n
 
 -- the number of the goal in hand, and how it came about
-abbrev pub heading : Theory → List Parent → Standing → List ℕ
-heading th ps st = block_text st ++ codes ", goal " ++ decimal (st.taken + 1) ++ parent_text th (parent_of ps st) ++ codes "\n"
+abbrev pub heading : Theory → List Descent → Standing → List ℕ
+heading th ds st = block_text st ++ codes ", goal " ++ decimal (st.taken + 1) ++ descent_text th (first_descent ds) ++ codes "\n"
 
 -- the goal as it stands
 abbrev pub goal_line : Signature → Goal → List ℕ
@@ -67,6 +73,10 @@ abbrev pub split_line : Signature → Option Tree → List ℕ
 split_line sig None = codes "no term to split on\n"
 split_line sig (Some u) = codes "split on " ++ shown sig u ++ codes "\n"
 
+-- the hidden goal gives way to its cases
+abbrev pub cases_line : Signature → Tree → List ℕ
+cases_line sig u = codes "cases on " ++ shown sig u ++ codes "\n"
+
 -- the next hypothesis
 abbrev pub derived_line : Standing → List ℕ
 derived_line st = codes "derive: " ++ hypothesis_text (length st.hypotheses + 1) ++ codes "\n"
@@ -80,6 +90,7 @@ opening_line th st s t =
 abbrev pub deed_line : Theory → Standing → (left right : Tree) → Deed → List ℕ
 deed_line th st s t (Joins ns) = uses_line (codes "equal") (codes "joins by ") ns
 deed_line th st s t (Passes ns) = uses_line (codes "lemma pass") (codes "lemma pass by ") ns
+deed_line th st s t (Cases u) = cases_line th.signature u
 deed_line th st s t Opens = opening_line th st s t
 deed_line th st s t Ends = []
 
@@ -107,9 +118,9 @@ done_text sig st = block_text st ++ codes ", done\n" ++ handed_on sig (length st
 
 -- ---- a turn
 
-abbrev pub text_at : Theory → List Parent → Standing → Option Account → (queue : List Goal) → List ℕ
-text_at th ps st a [] = done_text th.signature st
-text_at th ps st a (g ∷ rest) = heading th ps st ++ goal_line th.signature g ++ account_text th st a
+abbrev pub text_at : Theory → List Descent → Standing → Option Account → (queue : List Goal) → List ℕ
+text_at th ds st a [] = done_text th.signature st
+text_at th ds st a (g ∷ rest) = heading th ds st ++ goal_line th.signature g ++ account_text th st a
 
-abbrev pub turn_text : Theory → List Parent → Standing → Option Account → List ℕ
-turn_text th ps st a = text_at th ps st a st.queue
+abbrev pub turn_text : Theory → List Descent → Standing → Option Account → List ℕ
+turn_text th ds st a = text_at th ds st a st.queue

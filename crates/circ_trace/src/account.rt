@@ -17,7 +17,9 @@ pub enum Deed {
     Joins { hypotheses: Vec<u32> },
     /// A lemma pass uses these hypotheses.
     Passes { hypotheses: Vec<u32> },
-    /// Neither: the goal is derived, or split.
+    /// Neither: the goal is hidden, and gives way to its cases of this term.
+    Cases { term: Term },
+    /// Neither: the goal is derived, or it is visible and split.
     Opens,
     /// Neither is known, since the search ends while a condition is tried or a lemma is put in.
     Ends,

@@ -12,15 +12,16 @@ ghost use Rattle.circ_conditional_search.specs.Coming.{IsSmallTrying};
 ghost use Rattle.circ_conditional_search.specs.Search.{normal_sides_trying};
 ghost use Rattle.circ_turn.specs.Ending.{reducing};
 ghost use Rattle.circ_turn.specs.Standing.{standing};
-ghost use Rattle.circ_trace.specs.Account.{account, account_of, account_with, numbers_of};
-ghost use Rattle.circ_trace.specs.Account.{deed_on, join_deed, passes_by, Ends};
+ghost use Rattle.circ_trace.specs.Account.{account, account_of, account_on, numbers_of};
+ghost use Rattle.circ_trace.specs.Account.{deed_on, join_deed, passes_by, with_cases};
+ghost use Rattle.circ_trace.specs.Account.{Ends, Opens};
 ghost use Rattle.circ_trace.specs.Account.{plain_account_if, plain_deed};
 
 use crate::account::{Account, Deed};
 use circ_block::BlockRules;
 use circ_join::{HypothesisUse, Joining, Lemmas, Passing, Stop};
 use circ_rewrite::RewriteFault;
-use circ_split::{Sides, normal_sides};
+use circ_split::{Sides, case_term, normal_sides};
 use circ_theory::Goal;
 use circ_tries::Reducer;
 use circ_turn::{Search, State};
@@ -36,7 +37,8 @@ pub(crate) fn account(
     requires rules { IsRulesOf search.now.theory.now state.now.hyps.earlier rules.old }
     requires small { IsSmallTrying (standing state.now) }
     ensures exact { IfOk result (λ o. plain_account_if o
-        ≡ account search.now.theory.now search.now.gamma.now (standing state.now)) }
+        ≡ account search.now.theory.now search.now.gamma.now search.now.limits.split
+        (standing state.now)) }
     ensures rules { IsRulesOf search.now.theory.now state.now.hyps.earlier rules.new }
 {
     match state.queue.front() {
@@ -55,7 +57,7 @@ fn goal_account(
     requires rules { IsRulesOf search.now.theory.now state.now.hyps.earlier rules.old }
     requires few { length goal.now.conds < 2 ^ 32 }
     ensures exact { IfOk result (λ o. plain_account_if o ≡ account_of search.now.theory.now
-        search.now.gamma.now (standing state.now) goal.now.conds
+        search.now.gamma.now search.now.limits.split (standing state.now) goal.now.conds
         (normal_sides_trying search.now.theory.now
         (block_rules search.now.theory.now state.now.hyps.earlier) goal.now.conds goal.now.left
         goal.now.right state.now.budget)) }
@@ -103,16 +105,48 @@ fn normal_account(
     requires rules { IsRulesOf search.now.theory.now state.now.hyps.earlier rules.old }
     requires conds { rules.old.goals.conds ≡ goal.conds }
     ensures exact { IfOk result (λ o. plain_account_if o
-        ≡ Some (account_with goal.left goal.right (deed_on search.now.theory.now
-        search.now.gamma.now (standing state.now) goal budget))) }
+        ≡ Some (account_on search.now.theory.now search.now.gamma.now search.now.limits.split
+        (standing state.now) goal budget)) }
     ensures rules { IsRulesOf search.now.theory.now state.now.hyps.earlier rules.new }
 {
     let deed = deed(search, rules, state, &goal, budget)?;
+    let deed = with_cases(search, &goal, deed)?;
     Ok(Some(Account {
         left: goal.left,
         right: goal.right,
         deed,
     }))
+}
+
+// A hidden goal that is open is split on a term, where hidden goals are split.
+fn with_cases(search: &Search<'_>, goal: &Goal, deed: Deed) -> Result<Deed, AllocError>
+    ensures { IfOk result (λ d. plain_deed d ≡ with_cases search.now.theory.now
+        search.now.limits.split goal.now (plain_deed deed)) }
+{
+    match deed {
+        Deed::Joins { hypotheses } => Ok(Deed::Joins { hypotheses }),
+        Deed::Passes { hypotheses } => Ok(Deed::Passes { hypotheses }),
+        Deed::Cases { term } => Ok(Deed::Cases { term }),
+        Deed::Opens => opened(search, goal),
+        Deed::Ends => Ok(Deed::Ends),
+    }
+}
+
+// The same of a goal that is open.
+fn opened(search: &Search<'_>, goal: &Goal) -> Result<Deed, AllocError>
+    ensures { IfOk result (λ d. plain_deed d ≡ with_cases search.now.theory.now
+        search.now.limits.split goal.now Opens) }
+{
+    if !search.theory.is_hidden(goal.left.sort()) {
+        return Ok(Deed::Opens);
+    }
+    match case_term(search.theory, search.limits.split, goal) {
+        None => Ok(Deed::Opens),
+        Some(term) => {
+            let term = term.share()?;
+            Ok(Deed::Cases { term })
+        }
+    }
 }
 
 // There is no account where normalising ends the search.

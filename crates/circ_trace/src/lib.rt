@@ -6,14 +6,14 @@
 
 mod account;
 mod accounting;
+mod descent;
+mod descents;
 pub mod laws;
 mod lines;
-mod parent;
-mod parents;
 mod tracing;
 mod turn_lines;
 mod turns;
 
 pub use account::{Account, Deed};
-pub use parent::Parent;
+pub use descent::Descent;
 pub use tracing::trace;

@@ -4,7 +4,7 @@ ghost use Rattle.std.specs.Option.{option_copied, option_or};
 ghost use Rattle.circ_plain_search.specs.Joining.{first_open};
 ghost use Rattle.circ_trace.specs.TurnText.{shown, shown_sides, shown_goal, shown_side};
 ghost use Rattle.circ_trace.specs.TurnText.{derivative_text, hypothesis_text, further_hypothesis};
-ghost use Rattle.circ_trace.specs.TurnText.{hypothesis_lines, uses_line, split_line};
+ghost use Rattle.circ_trace.specs.TurnText.{hypothesis_lines, uses_line, split_line, cases_line};
 
 use circ_files::{push_counted, push_numbered};
 use circ_mixfix::{print, print_derivative, print_goal};
@@ -90,6 +90,19 @@ pub(crate) fn put_derivative(
         None => Ok(()),
         Some(body) => print_derivative(alloc, theory, body, out),
     }
+}
+
+/// Appends a line for the term on whose cases a hidden goal is split.
+pub(crate) fn put_cases(
+    alloc: Global,
+    theory: &Theory,
+    term: &Term,
+    out: &mut Vec<u8>,
+) -> Result<(), AllocError>
+    ensures { OnOk result (out.new.items ≡ out.old.items
+        ++ cases_line theory.now.signature term.now) }
+{
+    put_side(alloc, theory, b"cases on ", term, out)
 }
 
 /// Appends a line for what a visible goal is split on.

@@ -2,37 +2,40 @@
 ghost use Rattle.std.specs.Prelude.{◌≡◌, ◌≤◌, ◌++◌, length, OnOk};
 ghost use Rattle.circ_turn.specs.Standing.{standing};
 ghost use Rattle.circ_trace.specs.Account.{plain_account, plain_account_if};
-ghost use Rattle.circ_trace.specs.TurnText.{block_text, parent_text, heading, goal_line};
+ghost use Rattle.circ_trace.specs.TurnText.{block_text, descent_text, heading, goal_line};
 ghost use Rattle.circ_trace.specs.TurnText.{derived_line, opening_line, deed_line, account_text};
 ghost use Rattle.circ_trace.specs.TurnText.{done_text, turn_text};
 ghost use Rattle.circ_conditional_search.specs.Coming.{IsSmallTrying};
 
 use crate::account::{Account, Deed};
-use crate::lines::{put_derivative, put_goal, put_hypotheses, put_side, put_split, put_uses};
-use crate::parent::Parent;
-use crate::parents::parent_of;
+use crate::descent::Descent;
+use crate::descents::first_descent;
+use crate::lines::{
+    put_cases, put_derivative, put_goal, put_hypotheses, put_side, put_split, put_uses,
+};
 use circ_files::push_numbered;
 use circ_theory::{Goal, Theory};
 use circ_turn::State;
 use std::alloc::{AllocError, Global};
+use std::collections::VecDeque;
 
-/// Appends the lines of the turn that comes next, of which this is the account. The parents are
-/// those of the goals that the block has derived.
+/// Appends the lines of the turn that comes next, of which this is the account. The goals that wait
+/// come from there.
 pub(crate) fn put_turn(
     alloc: Global,
     theory: &Theory,
-    parents: &[Parent],
+    waiting: &VecDeque<Descent>,
     state: &State<'_>,
     account: &Option<Account>,
     out: &mut Vec<u8>,
 ) -> Result<(), AllocError>
     requires { IsSmallTrying (standing state.now) }
-    ensures { OnOk result (out.new.items ≡ out.old.items ++ turn_text theory.now parents.now
+    ensures { OnOk result (out.new.items ≡ out.old.items ++ turn_text theory.now waiting.now.items
         (standing state.now) (plain_account_if account.now)) }
 {
     match state.queue.front() {
         None => put_done(alloc, theory, state, out),
-        Some(goal) => put_goal_turn(alloc, theory, parents, state, goal, account, out),
+        Some(goal) => put_goal_turn(alloc, theory, waiting, state, goal, account, out),
     }
 }
 
@@ -40,18 +43,18 @@ pub(crate) fn put_turn(
 fn put_goal_turn(
     alloc: Global,
     theory: &Theory,
-    parents: &[Parent],
+    waiting: &VecDeque<Descent>,
     state: &State<'_>,
     goal: &Goal,
     account: &Option<Account>,
     out: &mut Vec<u8>,
 ) -> Result<(), AllocError>
     requires { IsSmallTrying (standing state.now) }
-    ensures { OnOk result (out.new.items ≡ out.old.items ++ (heading theory.now parents.now
+    ensures { OnOk result (out.new.items ≡ out.old.items ++ (heading theory.now waiting.now.items
         (standing state.now) ++ goal_line theory.now.signature goal.now
         ++ account_text theory.now (standing state.now) (plain_account_if account.now))) }
 {
-    put_heading(alloc, theory, parents, state, out)?;
+    put_heading(alloc, theory, waiting, state, out)?;
     put_taken(alloc, theory, goal, out)?;
     put_account(alloc, theory, state, account, out)
 }
@@ -60,18 +63,18 @@ fn put_goal_turn(
 fn put_heading(
     alloc: Global,
     theory: &Theory,
-    parents: &[Parent],
+    waiting: &VecDeque<Descent>,
     state: &State<'_>,
     out: &mut Vec<u8>,
 ) -> Result<(), AllocError>
     requires finished { length state.now.finished.items ≤ 100000 }
     requires taken { state.now.taken ≤ 100000 }
     ensures { OnOk result (out.new.items ≡ out.old.items
-        ++ heading theory.now parents.now (standing state.now)) }
+        ++ heading theory.now waiting.now.items (standing state.now)) }
 {
     put_block(state, out)?;
     push_numbered(out, b", goal ", state.taken + 1)?;
-    put_parent(alloc, theory, parent_of(parents, state), out)?;
+    put_descent(alloc, theory, first_descent(waiting), out)?;
     out.extend_from_slice(b"\n")
 }
 
@@ -82,20 +85,24 @@ fn put_block(state: &State<'_>, out: &mut Vec<u8>) -> Result<(), AllocError>
     push_numbered(out, b"block ", state.finished.len() as u64 + 1)
 }
 
-fn put_parent(
+fn put_descent(
     alloc: Global,
     theory: &Theory,
-    parent: Option<Parent>,
+    descent: Descent,
     out: &mut Vec<u8>,
 ) -> Result<(), AllocError>
-    ensures { OnOk result (out.new.items ≡ out.old.items ++ parent_text theory.now parent) }
+    ensures { OnOk result (out.new.items ≡ out.old.items ++ descent_text theory.now descent) }
 {
-    match parent {
-        None => Ok(()),
-        Some(parent) => {
+    match descent {
+        Descent::Given => Ok(()),
+        Descent::Derived { goal, derivative } => {
             out.extend_from_slice(b" = ")?;
-            put_derivative(alloc, theory, parent.derivative, out)?;
-            push_numbered(out, b" of goal ", parent.goal)
+            put_derivative(alloc, theory, derivative, out)?;
+            push_numbered(out, b" of goal ", goal)
+        }
+        Descent::Case { goal, number } => {
+            push_numbered(out, b" = case ", number)?;
+            push_numbered(out, b" of goal ", goal)
         }
     }
 }
@@ -152,6 +159,7 @@ fn put_deed(
         Deed::Passes { hypotheses } => {
             put_uses(b"lemma pass", b"lemma pass by ", hypotheses.as_slice(), out)
         }
+        Deed::Cases { term } => put_cases(alloc, theory, term, out),
         Deed::Opens => put_opening(alloc, theory, state, account, out),
         Deed::Ends => Ok(()),
     }

@@ -6,9 +6,6 @@ use Rattle.circ_refute.specs.Difference.{IsRight}
 use Rattle.circ_refute.proofs.Decisions.{right_found}
 use Rattle.circ_refute.proofs.refuting.refute.Goals as goal
 
-pub refute-found-requires-clause-plain : goal.refute-found-requires-clause-plain
-refute-found-requires-clause-plain c = rw c.in_ok-refuter.ensures.theory c.requires.plain
-
 pub returns-clause-right : goal.returns-clause-right
 returns-clause-right c =
     let th = c.args.theory.now in
@@ -22,5 +19,5 @@ returns-clause-right c =
       numbers = c.requires.low;
     } in
     let T : Theory → Type 0 = λ t. IsRight th g (refutation t r.derives r.rewrites g).refuted in
-    let right = subst T (sym c.in_ok-refuter.ensures.theory) (c.differences_are_right.ensures th c.known.ensures c.requires.plain g s r.derives r.rewrites) in
+    let right = subst T (sym c.in_ok-refuter.ensures.theory) (c.differences_are_right.ensures th c.known.ensures g s r.derives r.rewrites) in
     right_found th g (refutation r.theory.now r.derives r.rewrites g) _ _ c.refute-found.result right c.refute-found.ensures.exact

@@ -8,9 +8,6 @@ use Rattle.circ_refute.specs.Difference.{IsRightDecision}
 use Rattle.circ_refute.proofs.Decisions.{all_in_blocks, right_decided}
 use Rattle.circ_refute.proofs.refuting.refute_all.Goals as goal
 
-pub refute_blocks-decision-requires-clause-plain : goal.refute_blocks-decision-requires-clause-plain
-refute_blocks-decision-requires-clause-plain c = rw c.in_ok-refuter.ensures.theory c.requires.plain
-
 pub refute_blocks-decision-requires-clause-goals : goal.refute_blocks-decision-requires-clause-goals
 refute_blocks-decision-requires-clause-goals c =
     let T : Theory → Type 0 = λ t. AllByRecursion (λ b. AllByRecursion (IsSearchable t) b) (map (λ b. b.items) c.args.blocks.now) in
@@ -24,5 +21,5 @@ returns-clause-right c =
     let r = c.in_ok-refuter.refuter in
     let T : Theory → Type 0 = λ t. IsRightDecision th gs (refutations t 1 r.derives r.rewrites gs) in
     let all = all_in_blocks (IsSearchable th) bs c.requires.goals in
-    let right = subst T (sym c.in_ok-refuter.ensures.theory) (c.decisions_are_right.ensures th c.known.ensures c.requires.plain gs all r.derives r.rewrites) in
+    let right = subst T (sym c.in_ok-refuter.ensures.theory) (c.decisions_are_right.ensures th c.known.ensures gs all r.derives r.rewrites) in
     right_decided th gs (refutations r.theory.now 1 r.derives r.rewrites gs) _ _ c.refute_blocks-decision.result right c.refute_blocks-decision.ensures.exact

@@ -34,11 +34,14 @@ returns-in-Ok-look_for_difference-clause-sought g c =
     let th = c.in-Ok.theory in
     let sc = plain_script c.in-Ok-take_script.script in
     record {
-      th = th;
-      sc = sc;
-      ends = rw (c.as_slice.ensures.value, sym c.plainly_searchable.ensures.same, c.in-Ok-take_script.ensures.kept) at c.in-Ok-look_for_difference.ensures;
-      takes_theory = record { bytes = c.in-Ok.ensures.takes.bytes; well_formed = c.in-Ok.ensures.takes.well_formed; reads = c.in-Ok.ensures.takes.reads };
-      takes_script = script_before c.args.script.now th job.Differ sc _ _ c.in-Ok.ensures.frame c.in-Ok-take_script.ensures.takes;
+      done = record {
+        th = th;
+        sc = sc;
+        ends = rw (c.as_slice.ensures.value, sym c.plainly_searchable.ensures.same, c.in-Ok-take_script.ensures.kept) at c.in-Ok-look_for_difference.ensures;
+        takes_theory = record { bytes = c.in-Ok.ensures.takes.bytes; well_formed = c.in-Ok.ensures.takes.well_formed; reads = c.in-Ok.ensures.takes.reads };
+        takes_script = script_before c.args.script.now th job.Differ sc _ _ c.in-Ok.ensures.frame c.in-Ok-take_script.ensures.takes;
+      };
+      searchable = rw c.in-Ok-take_script.ensures.kept at c.plainly_searchable.ensures.searchable;
     }
 
 pub returns-clause-refused : goal.returns-clause-refused
@@ -46,6 +49,3 @@ returns-clause-refused g c = theory_fault status.Memory tt
 
 pub differ-requires-clause-searchable : goal.differ-requires-clause-searchable
 differ-requires-clause-searchable g c = rw (c.as_slice.ensures.value, sym c.plainly_searchable.ensures.same) c.plainly_searchable.ensures.searchable
-
-pub plainly_searchable-requires-clause-plain : goal.plainly_searchable-requires-clause-plain
-plainly_searchable-requires-clause-plain g c = rw c.in-Ok-take_script.ensures.kept c.in-Ok.ensures.takes.plain

@@ -34,11 +34,14 @@ returns-in-Ok-trace_search-clause-traced g c =
     let th = c.in-Ok.theory in
     let sc = plain_script c.in-Ok-take_script.script in
     record {
-      th = th;
-      sc = sc;
-      ends = rw (c.as_slice.ensures.value, sym c.searchable.ensures.same, c.in-Ok-take_script.ensures.kept) at c.in-Ok-trace_search.ensures;
-      takes_theory = record { bytes = c.in-Ok.ensures.takes.bytes; well_formed = c.in-Ok.ensures.takes.well_formed; reads = c.in-Ok.ensures.takes.reads };
-      takes_script = script_before c.args.script.now th job.Prove sc _ _ c.in-Ok.ensures.frame c.in-Ok-take_script.ensures.takes;
+      done = record {
+        th = th;
+        sc = sc;
+        ends = rw (c.as_slice.ensures.value, sym c.searchable.ensures.same, c.in-Ok-take_script.ensures.kept) at c.in-Ok-trace_search.ensures;
+        takes_theory = record { bytes = c.in-Ok.ensures.takes.bytes; well_formed = c.in-Ok.ensures.takes.well_formed; reads = c.in-Ok.ensures.takes.reads };
+        takes_script = script_before c.args.script.now th job.Prove sc _ _ c.in-Ok.ensures.frame c.in-Ok-take_script.ensures.takes;
+      };
+      searchable = rw c.in-Ok-take_script.ensures.kept at c.searchable.ensures.searchable;
     }
 
 pub returns-clause-refused : goal.returns-clause-refused

@@ -1,4 +1,4 @@
-use Rattle.std.proofs.Common.{◌≡◌, ◌+◌, [], Some, drop, length, sym, subst, ◌∙◌, arith, refl}
+use Rattle.std.proofs.Common.{◌≡◌, ◌+◌, Some, drop, length, sym, subst, ◌∙◌, arith, refl}
 use Rattle.std.proofs.lemmas.List.{length-drop}
 use Rattle.std.proofs.lemmas.Option.{slice_get_read}
 use Rattle.circ_spelling.specs.declared.grammar.Rule.{Rule}
@@ -11,7 +11,7 @@ use Rattle.circ_chart.proofs.Small.{small_rows}
 use Rattle.circ_spelling.proofs.May.{may_reads}
 use Rattle.circ_chart.proofs.Memory.{listed_answer}
 use Rattle.circ_chart.proofs.Tables.{next_skips}
-use Rattle.circ_chart.proofs.Asking.{keeps_none, small_terms, found_ways, last_found, with_enough, rule_terms, no_last, no_last_term, going_first, going_on, going_full, going_end, short_parentheses, no_tokens, kept_word, rule_step, rules_full, rules_end, no_first, no_rest, no_others, split_kept, rule_passed, before_kept, before_none}
+use Rattle.circ_chart.proofs.Asking.{keeps_none, small_terms, found_ways, with_enough, rule_terms, no_last, going_first, going_on, going_full, going_end, short_parentheses, no_tokens, kept_word, rule_step, rules_full, rules_end, no_first, no_rest, no_others, split_kept, rule_passed, before_kept, before_none}
 use Rattle.circ_chart.proofs.reader.Reader.+read.Goals as goal
 
 -- terms
@@ -26,7 +26,10 @@ pub terms-returns-in-Some-clause-terms : goal.terms-returns-in-Some-clause-terms
 terms-returns-in-Some-clause-terms t c =
     let a = c.args in
     let r = a.self.now in
-    listed_answer r.grammar.now r.tokens.now a.memo.now.entries.items (OfTerm a.wanted.sort a.wanted.below) a.from a.to c.in-Some.few c.requires.ready.memo (rw (c.in-Some.is) at c.in_ok-kept.ensures)
+    listed_answer r.grammar.now r.tokens.now a.memo.now.entries.items (OfTerm a.wanted.sort a.wanted.below) a.from a.to c.in-Some.few c.requires.ready.memo (rw (c.in-Some.is) at c.in_ok-known.ensures)
+
+pub terms-returns-clause-terms : goal.terms-returns-clause-terms
+terms-returns-clause-terms t c = rw (c.in_ok-kept.ensures.same) (c.in_ok-few.ensures.terms)
 
 pub terms-returns-clause-ready : goal.terms-returns-clause-ready
 terms-returns-clause-ready t c =
@@ -36,8 +39,11 @@ terms-returns-clause-ready t c =
       words = q.ready.words;
       tables = q.ready.tables;
       starts = q.ready.starts;
-      memo = c.in_ok-keep.ensures r.grammar.now r.tokens.now q.ready.memo (rw (c.in_ok-copy.ensures) (q.terms));
+      memo = c.in_ok-kept.ensures.kept r.grammar.now r.tokens.now q.ready.memo q.terms;
     }
+
+pub terms-new_terms-requires : goal.terms-new_terms-requires
+terms-new_terms-requires t c = let q = c.requires in (omega arith, (q.ready, (q.few, (q.inside, q.before))))
 
 pub new_terms-returns-clause-terms : goal.new_terms-returns-clause-terms
 new_terms-returns-clause-terms t c =
@@ -155,33 +161,25 @@ last_hole-returns-then-from-to-clause-rows t c =
     let r = a.self.now in
     no_last r.grammar.now r.tokens.now a.rule.now.op a.rule.now.sort a.wanted.sort a.wanted.below a.from a.to c.requires.ready.words c.if-from-to.true
 
-pub last_hole-returns-in-Empty-clause-rows : goal.last_hole-returns-in-Empty-clause-rows
-last_hole-returns-in-Empty-clause-rows t c =
-    let a = c.args in
-    let r = a.self.now in
-    no_last_term r.grammar.now r.tokens.now a.rule.now.op a.rule.now.sort a.wanted.sort a.wanted.below a.from a.to (rw (c.in-Empty.is) at c.in_ok-found.ensures.terms.enough)
+pub last_hole-terms-requires : goal.last_hole-terms-requires
+last_hole-terms-requires t c =
+    let q = c.requires in
+    let a = q.ahead in
+    let o = q.room in
+    (omega arith, (q.ready, (q.few, (q.inside, omega arith))))
 
-pub last_hole-products-requires : goal.last_hole-products-requires
-last_hole-products-requires t c =
+pub last_hole-last_rows-requires : goal.last_hole-last_rows-requires
+last_hole-last_rows-requires t c =
     let a = c.args in
     let r = a.self.now in
-    let g = r.grammar.now in
-    let ts = r.tokens.now in
-    record {
-      apart = tt;
-      terms = small_terms g ts a.wanted.below a.wanted.sort a.from a.to c.in_ok-found.found c.requires.ready.words c.requires.few c.in_ok-found.ensures.terms.enough.sound;
-      rows = small_rows g ts a.rule.now.op a.rule.now.sort [] a.to a.to c.in_ok-end.end c.requires.ready.words c.requires.few c.requires.inside (c.in_ok-end.ensures g ts).enough.sound;
-    }
+    small_terms r.grammar.now r.tokens.now a.wanted.below a.wanted.sort a.from a.to c.in_ok-found.found c.requires.ready.words c.requires.few c.in_ok-found.ensures.terms.enough.sound
 
 pub last_hole-returns : goal.last_hole-returns
 last_hole-returns t c =
     let a = c.args in
     let r = a.self.now in
-    let g = r.grammar.now in
-    let ts = r.tokens.now in
     record {
-      rows = last_found g ts a.rule.now.op a.rule.now.sort a.wanted.sort a.wanted.below a.from a.to c.in_ok-found.found c.in_ok-end.end c.in_ok-products.field-0
-          c.in_ok-found.ensures.terms.enough (c.in_ok-end.ensures g ts).enough c.in_ok-products.ensures;
+      rows = c.in_ok-last_rows.ensures r.grammar.now r.tokens.now a.wanted.sort a.wanted.below a.from c.in_ok-found.ensures.terms.enough;
       ready = c.in_ok-found.ensures.ready;
     }
 
@@ -191,7 +189,10 @@ kept_splits-returns-in-Some-clause-rows t c =
     let a = c.args in
     let r = a.self.now in
     let p = a.gap.part in
-    listed_answer r.grammar.now r.tokens.now a.memo.now.entries.items (OfRow p.number p.place) a.from a.to c.in-Some.few c.requires.ready.memo (rw (c.in-Some.is) at c.in_ok-kept.ensures) p.rule.now c.requires.rule
+    listed_answer r.grammar.now r.tokens.now a.memo.now.entries.items (OfRow p.number p.place) a.from a.to c.in-Some.few c.requires.ready.memo (rw (c.in-Some.is) at c.in_ok-known.ensures) p.rule.now c.requires.rule
+
+pub kept_splits-returns-clause-rows : goal.kept_splits-returns-clause-rows
+kept_splits-returns-clause-rows t c = rw (c.in_ok-kept.ensures.same) (c.in_ok-few.ensures.rows)
 
 pub kept_splits-returns-clause-ready : goal.kept_splits-returns-clause-ready
 kept_splits-returns-clause-ready t c =
@@ -203,12 +204,27 @@ kept_splits-returns-clause-ready t c =
       words = q.ready.words;
       tables = q.ready.tables;
       starts = q.ready.starts;
-      memo = c.in_ok-keep.ensures r.grammar.now r.tokens.now q.ready.memo (λ x e.
+      memo = c.in_ok-kept.ensures.kept r.grammar.now r.tokens.now q.ready.memo (λ x e.
           let z : Some p.rule.now ≡ Some x = sym c.requires.rule ∙ e in
           let f : p.rule.now ≡ x = cc z in
-          let P : Rule → Type 0 = λ y. KeepsTerms c.in_ok-copy.copy (RowsOf r.grammar.now r.tokens.now y.op y.sort (drop p.place y.symbols.items) a.from a.to) in
-          subst P f (rw (c.in_ok-copy.ensures) (q.rows)));
+          let P : Rule → Type 0 = λ y. KeepsTerms c.in_ok-few.few (RowsOf r.grammar.now r.tokens.now y.op y.sort (drop p.place y.symbols.items) a.from a.to) in
+          subst P f q.rows);
     }
+
+pub kept_splits-new_splits-requires : goal.kept_splits-new_splits-requires
+kept_splits-new_splits-requires t c = let q = c.requires in (omega arith, (q.ready, (q.few, (q.inside, (q.ahead, (q.rule, (q.hole, (q.place, (q.room, q.within)))))))))
+
+pub splits-new_splits-requires : goal.splits-new_splits-requires
+splits-new_splits-requires t c = let q = c.requires in (omega arith, (q.ready, (q.few, (q.inside, (q.ahead, (q.rule, (q.hole, (q.place, (q.room, q.within)))))))))
+
+pub splits-kept_splits-requires : goal.splits-kept_splits-requires
+splits-kept_splits-requires t c = let q = c.requires in (omega arith, (q.ready, (q.few, (q.inside, (q.ahead, (q.rule, (q.hole, (q.place, (q.room, q.within)))))))))
+
+pub new_splits-split-requires : goal.new_splits-split-requires
+new_splits-split-requires t c =
+    let q = c.requires in
+    let i = c.loop-middle.invariant in
+    (omega arith, (i.ready, (q.few, (q.inside, (i.low, (c.loop-middle-test.true, (q.rule, (q.place, (q.room, q.within)))))))))
 
 pub before_words-returns-then-to-from-clause-rows : goal.before_words-returns-then-to-from-clause-rows
 before_words-returns-then-to-from-clause-rows t c =
@@ -300,16 +316,25 @@ split-returns-then-is_known_none-clause-rows t c =
     let q = x.part.rule.now in
     no_first r.grammar.now r.tokens.now q.op q.sort x.wanted.sort x.wanted.below (behind x.part) a.from a.to a.middle (c.is_known_none.ensures c.if-is_known_none.true)
 
-pub split-returns-in-Empty-clause-rows : goal.split-returns-in-Empty-clause-rows
-split-returns-in-Empty-clause-rows t c =
+pub split-before_rest-requires : goal.split-before_rest-requires
+split-before_rest-requires t c =
+    let q = c.requires in
+    let l = q.low in
+    let h = q.high in
+    let w = q.within in
+    let e = c.in_ok-rest.ensures in
+    (omega arith, (e.ready, (q.few, (q.inside, (q.low, (q.high, e.rows.enough))))))
+
+pub before_rest-returns-in-Empty-clause-rows : goal.before_rest-returns-in-Empty-clause-rows
+before_rest-returns-in-Empty-clause-rows t c =
     let a = c.args in
     let r = a.self.now in
     let x = a.gap in
     let q = x.part.rule.now in
-    no_rest r.grammar.now r.tokens.now q.op q.sort x.wanted.sort x.wanted.below (behind x.part) a.from a.to a.middle (rw (c.in-Empty.is) at c.in_ok-rest.ensures.rows.enough)
+    no_rest r.grammar.now r.tokens.now q.op q.sort x.wanted.sort x.wanted.below (behind x.part) a.from a.to a.middle (rw (c.in-Empty.is) at c.requires.rest)
 
-pub split-products-requires : goal.split-products-requires
-split-products-requires t c =
+pub before_rest-products-requires : goal.before_rest-products-requires
+before_rest-products-requires t c =
     let a = c.args in
     let r = a.self.now in
     let x = a.gap in
@@ -317,17 +342,17 @@ split-products-requires t c =
     record {
       apart = tt;
       terms = small_terms r.grammar.now r.tokens.now x.wanted.below x.wanted.sort a.from a.middle c.in_ok-found.found c.requires.ready.words c.requires.few c.in_ok-found.ensures.terms.enough.sound;
-      rows = small_rows r.grammar.now r.tokens.now q.op q.sort (behind x.part) a.middle a.to c.in_ok-rest.rest c.requires.ready.words c.requires.few c.requires.inside c.in_ok-rest.ensures.rows.enough.sound;
+      rows = small_rows r.grammar.now r.tokens.now q.op q.sort (behind x.part) a.middle a.to a.rest.now c.requires.ready.words c.requires.few c.requires.inside c.requires.rest.sound;
     }
 
-pub split-returns : goal.split-returns
-split-returns t c =
+pub before_rest-returns : goal.before_rest-returns
+before_rest-returns t c =
     let a = c.args in
     let r = a.self.now in
     let x = a.gap in
     let q = x.part.rule.now in
     record {
-      rows = split_kept r.grammar.now r.tokens.now q.op q.sort x.wanted.sort x.wanted.below (behind x.part) a.from a.to a.middle c.in_ok-found.found c.in_ok-rest.rest c.in_ok-products.field-0
-          c.in_ok-found.ensures.terms.enough c.in_ok-rest.ensures.rows.enough c.in_ok-products.ensures;
+      rows = split_kept r.grammar.now r.tokens.now q.op q.sort x.wanted.sort x.wanted.below (behind x.part) a.from a.to a.middle c.in_ok-found.found a.rest.now c.in_ok-products.field-0
+          c.in_ok-found.ensures.terms.enough c.requires.rest c.in_ok-products.ensures;
       ready = c.in_ok-found.ensures.ready;
     }

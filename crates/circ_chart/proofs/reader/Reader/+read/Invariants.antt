@@ -43,6 +43,9 @@ decreases-new_splits l = 4000 * l.within + 8 * (l.to - l.from) + 4
 abbrev pub decreases-split : goal.decreases-split
 decreases-split l = 4000 * l.within + 8 * (l.to - l.from) + 3
 
+abbrev pub decreases-before_rest : goal.decreases-before_rest
+decreases-before_rest l = 4000 * (l.middle - l.from) + 3950
+
 abbrev pub invariant-by_rules-loop-number : goal.invariant-by_rules-loop-number
 invariant-by_rules-loop-number l = record {
   enough : Enough (Or (In l.all) (AnyByRule l.self.grammar.now l.self.tokens.now l.wanted.below l.wanted.sort l.from l.to (drop l.number l.self.grammar.now.rules.items))) (Or (In l.fn.out) (RulesOver l.self l.wanted l.from l.to));

@@ -16,8 +16,8 @@ loop-before-preserved c =
     let b = c.args.self.now.budget in
     let cs = c.loop-before.left.items in
     let ds = c.narrow.new.candidates.items in
-    let P : List Place → Type 0 = λ G. Keeps (Passes th G) cs ds in
-    let k : Keeps (Passes th (places_of cs)) cs ds = subst P (c.in_ok-gamma.ensures ∙ ap places_of c.as_slice.ensures.value) c.narrow.ensures in
+    let P : List Place → Type 0 = λ G. Keeps (Passes G) cs ds in
+    let k : Keeps (Passes (places_of cs)) cs ds = subst P (c.in_ok-gamma.ensures ∙ ap places_of c.as_slice.ensures.value) c.narrow.ensures in
     record {
       stands = stands_next th b cs ds c.loop-before.invariant.stands k;
       done = λ h. stands_last th b cs ds c.loop-before.invariant.stands k (omega (arith, h, c.len-before-in-loop-before.ensures));

@@ -3,9 +3,6 @@ use Rattle.circ_theory.specs.Theory.{Theory}
 use Rattle.circ_refute.specs.Progress.{Progress, progress, first_progress, HasRoom}
 use Rattle.circ_refute.proofs.refuter.Refuter.refute.Goals as goal
 
-pub run-requires-clause-plain : goal.run-requires-clause-plain
-run-requires-clause-plain c = rw c.in_ok-begin.ensures.theory c.requires.plain
-
 pub run-requires-clause-room : goal.run-requires-clause-room
 run-requires-clause-room c =
     let s = c.args.self.now in

@@ -8,9 +8,6 @@ use Rattle.circ_refute.specs.Plain.{plain_decision, plain_refuted}
 use Rattle.circ_refute.proofs.Decisions.{all_of_block, block_next, not_alike}
 use Rattle.circ_refute.proofs.refuter.Refuter.refute_blocks.Goals as goal
 
-pub refute_block-requires-clause-plain : goal.refute_block-requires-clause-plain
-refute_block-requires-clause-plain c = rw c.loop-block.invariant.theory c.requires.plain
-
 pub refute_block-requires-clause-goals : goal.refute_block-requires-clause-goals
 refute_block-requires-clause-goals c =
     let th = c.args.self.now.theory.now in
@@ -48,7 +45,7 @@ loop-block-preserved c =
     let alike : unless_alike x.conclusion.refuted x rest ≡ rest = ap (λ r. unless_alike (plain_refuted r) x rest) c.in-Alike.is in
     record {
       theory = c.in_ok-decision.ensures.theory ∙ l.invariant.theory;
-      memo = c.in_ok-decision.ensures.memo ∙ l.invariant.memo;
+      reducer = c.in_ok-decision.ensures.reducer ∙ l.invariant.reducer;
       rewrites = omega (arith, c.in_ok-decision.ensures.rewrites, l.invariant.rewrites);
       derives = omega (arith, c.in_ok-decision.ensures.derives, l.invariant.derives);
       same = sym (next ∙ alike) ∙ l.invariant.same;

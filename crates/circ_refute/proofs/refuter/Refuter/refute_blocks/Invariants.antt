@@ -5,7 +5,7 @@ use Rattle.circ_refute.proofs.refuter.Refuter.refute_blocks.Given as goal
 abbrev pub invariant-loop-block : goal.invariant-loop-block
 invariant-loop-block l = record {
   theory : l.self.theory ≡ l.fn.self.theory;
-  memo : l.self.memo ≡ l.fn.self.memo;
+  reducer : l.self.reducer ≡ l.fn.self.reducer;
   rewrites : l.self.rewrites ≤ l.fn.self.rewrites;
   derives : l.self.derives ≤ l.fn.self.derives;
   same : refutations l.fn.self.theory.now l.next l.self.derives l.self.rewrites (goals_in (map (λ b. b.items) (drop l.block-index l.blocks)))

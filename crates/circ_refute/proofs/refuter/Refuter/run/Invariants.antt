@@ -6,7 +6,7 @@ use Rattle.circ_refute.proofs.refuter.Refuter.run.Given as goal
 abbrev pub invariant-loop-halt : goal.invariant-loop-halt
 invariant-loop-halt l = record {
   theory : l.self.theory ≡ l.fn.self.theory;
-  memo : l.self.memo ≡ l.fn.self.memo;
+  reducer : l.self.reducer ≡ l.fn.self.reducer;
   rewrites : l.self.rewrites ≤ l.fn.self.rewrites;
   derives : l.self.derives ≤ l.fn.self.derives;
   room : HasRoom l.self.theory.now (progress l.self);

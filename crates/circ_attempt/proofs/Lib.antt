@@ -1,0 +1,12 @@
+pub mod Parts
+pub mod Sweeping
+pub mod Taking
+pub mod Falling
+pub mod Closed
+pub mod Turns
+pub mod Ends
+pub mod Answers
+pub mod Founds
+pub mod Coming
+pub mod Without
+pub mod Strict

@@ -1,0 +1,7 @@
+pub mod Below
+pub mod Rules
+pub mod Passes
+pub mod Attempt
+pub mod Search
+pub mod RewritingSearch
+pub mod Examples

@@ -1,6 +1,0 @@
-use Rattle.std.proofs.Common.{◌≡◌, ◌++◌, map}
-use Rattle.circ_contexts.proofs.contexts.push_traces.Given as goal
-
-abbrev pub invariant-loop-normal : goal.invariant-loop-normal
-invariant-loop-normal l =
-    l.traces.items ++ map (λ n. n.traces) l.normal-iterator.rest.items ≡ l.initial.traces.items ++ map (λ n. n.traces) l.fn.normals.items

@@ -1,0 +1,4 @@
+pub mod Specials
+pub mod Owing
+pub mod Observing
+pub mod Having

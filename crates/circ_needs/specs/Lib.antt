@@ -1,0 +1,4 @@
+pub mod Observing
+pub mod Owing
+pub mod Needs
+pub mod Places
