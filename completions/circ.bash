@@ -16,7 +16,7 @@ _circ() {
   done
   case $word in
     -*)
-      COMPREPLY=($(compgen -W "--steps --derives --split" -- "$word"))
+      COMPREPLY=($(compgen -W "--steps --derives --split --rewrite" -- "$word"))
       return
       ;;
   esac

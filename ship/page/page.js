@@ -153,7 +153,7 @@ function wordsOf(button) {
 
 function limits() {
   const given = ['steps', 'derives'].flatMap(id => (at(id).value === '' ? [] : [`--${id}`, at(id).value]));
-  return at('split').checked ? [...given, '--split'] : given;
+  return [...given, ...['split', 'rewrite'].filter(id => at(id).checked).map(id => `--${id}`)];
 }
 
 async function run(words) {

@@ -7,6 +7,9 @@ pub mod Turns
 pub mod Ends
 pub mod Answers
 pub mod Founds
+pub mod OwnRules
+pub mod Following
+pub mod Derived
 pub mod Coming
 pub mod Without
 pub mod Strict

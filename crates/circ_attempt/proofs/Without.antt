@@ -25,7 +25,7 @@ module _ (th : Theory) (G : List Place) (l : Conduct) (off : l.rewrite ≡ false
   finishes_trying x e (goes_on_so _ y _ t r) =
       goes_on x.standing y.standing e (afresh_is (turn_trying th G m x.standing) y (sym (turn_same x) ∙ t)) (finishes_trying y e r)
 
-  finishes_rewriting : (st : Standing) (x : Going) (e : Ending) → x.standing ≡ st → Finishes th G m st e → FinishesRewriting th G l x e
+  pub finishes_rewriting : (st : Standing) (x : Going) (e : Ending) → x.standing ≡ st → Finishes th G m st e → FinishesRewriting th G l x e
   finishes_rewriting st x e is (stops _ _ t) = stops_so x e (turn_same x ∙ ap (λ s. afresh (turn_trying th G m s)) is ∙ ap afresh t)
   finishes_rewriting st x e is (goes_on _ next _ t r) =
       goes_on_so x (going next []) e (turn_same x ∙ ap (λ s. afresh (turn_trying th G m s)) is ∙ ap afresh t) (finishes_rewriting next (going next []) e refl r)

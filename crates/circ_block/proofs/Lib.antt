@@ -1,4 +1,3 @@
-pub mod Bound
 pub mod DeepChains
 pub mod Lemmas
 pub mod Limited

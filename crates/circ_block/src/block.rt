@@ -7,9 +7,9 @@ ghost use Rattle.circ_theory.specs.declared.parts.Goal.{Goal as TheGoal};
 ghost use Rattle.circ_plain_search.specs.BlockRules.{can_rewrite, lemma_rule};
 ghost use Rattle.circ_block.specs.Rules.{IsRulesOf, HaveRoom, with_rule};
 
-use crate::lemma::{can_rewrite, lemma_rule};
+use crate::lemma::lemma_rule;
 use crate::reducing::{GoalReducer, goal_reducers, push_rule};
-use circ_join::Lemmas;
+use circ_join::{Lemmas, can_rewrite};
 use circ_rewrite::theory_rules;
 use circ_theory::{Goal, Pair, Theory};
 use circ_tries::Reducer;

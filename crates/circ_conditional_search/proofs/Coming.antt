@@ -109,10 +109,10 @@ few_conds : (th : Theory) (m : ℕ) (gs : List Goal) → FineGoals th m gs → A
 few_conds th m gs a = all_by (FineGoal th m) HasFewConditions gs (λ g f. f.few) a
 
 module _ (th : Theory) (wf : IsWellFormed th) (G : List Place) (m : Manner) (blocks : List (List Goal)) where
-  abbrev Good : Standing → Type 0
+  abbrev pub Good : Standing → Type 0
   Good st = Opened th G blocks st st.queue
 
-  start_good : CanAllBeSearched th blocks → Good (start m.limits blocks)
+  pub start_good : CanAllBeSearched th blocks → Good (start m.limits blocks)
   start_good a = go blocks a
     where
       go : (bs : List (List Goal)) → CanAllBeSearched th bs → Opened th G bs (start m.limits bs) (start m.limits bs).queue
@@ -123,7 +123,7 @@ module _ (th : Theory) (wf : IsWellFormed th) (G : List Place) (m : Manner) (blo
   comes_good a _ here = start_good a
   comes_good a _ (further st next c t) = turn_good th wf G m blocks st next (comes_good a st c) t
 
-  small_if : (st : Standing) (Q : List Goal) → Ran th G blocks st Q → AllByRecursion HasFewConditions st.queue → IsSmallTrying st
+  pub small_if : (st : Standing) (Q : List Goal) → Ran th G blocks st Q → AllByRecursion HasFewConditions st.queue → IsSmallTrying st
   small_if st Q r few =
       let c = ran_counted th G blocks st Q r in
       let taken = r.taken in
@@ -139,7 +139,7 @@ module _ (th : Theory) (wf : IsWellFormed th) (G : List Place) (m : Manner) (blo
         few_conds = few;
       }
 
-  opened_small : (st : Standing) (Q : List Goal) → st.queue ≡ Q → Opened th G blocks st Q → IsSmallTrying st
+  pub opened_small : (st : Standing) (Q : List Goal) → st.queue ≡ Q → Opened th G blocks st Q → IsSmallTrying st
   opened_small st [] e o = let P : List Goal → Type 0 = AllByRecursion HasFewConditions in small_if st [] o (subst P (sym e) tt)
   opened_small st (g ∷ rest) e o =
       let P : List Goal → Type 0 = AllByRecursion HasFewConditions in
@@ -148,7 +148,7 @@ module _ (th : Theory) (wf : IsWellFormed th) (G : List Place) (m : Manner) (blo
   pub standing_small : CanAllBeSearched th blocks → (st : Standing) → ComesTrying th G m (start m.limits blocks) st → IsSmallTrying st
   standing_small a st c = opened_small st st.queue refl (comes_good a st c)
 
-  ready_if : (st : Standing) (Q : List Goal) (g : Goal) → Ran th G blocks st Q → FineGoal th (bound st) g → IsReadyTrying th g
+  pub ready_if : (st : Standing) (Q : List Goal) (g : Goal) → Ran th G blocks st Q → FineGoal th (bound st) g → IsReadyTrying th g
   ready_if st Q g r f =
       let few = r.few in
       let small = r.small in

@@ -10,8 +10,8 @@ use Rattle.circ_proof.specs.Rules.{ProofStep, Derive}
 use Rattle.circ_proof_text.specs.ProofText.{proof_text}
 use Rattle.circ_show.specs.GoalsText.{pair_lines, all_goal_lines}
 use Rattle.circ_plain_search.specs.Numbering.{Found, Proved, LongTable, Stuck, Spent, TooBig, TooDeep}
-use Rattle.circ_conditional_search.specs.ConditionalSearch.{ConditionalSearch}
-use Rattle.circ_conditional_search.specs.Search.{Manner}
+use Rattle.circ_attempt.specs.RewritingSearch.{RewritingSearch}
+use Rattle.circ_attempt.specs.Search.{Conduct}
 use Rattle.circ_files.specs.Texts.{too_long_text, spent_text, too_big_text, too_deep_text}
 use Rattle.circ_files.specs.declared.status.Status.TheVariants as status
 use Rattle.circ_files.specs.Ending.{stored_as, Ending, ending}
@@ -59,7 +59,7 @@ found_ending sig name (TooBig n) = ending (status.TooBig n) (too_big_text n) Non
 found_ending sig name (TooDeep n) = ending (status.TooDeep n) (too_deep_text n) None
 
 -- The search for a proof of a script's goals ends so.
-pub record SearchEnds (th : Theory) (manner : Manner) (name : List ℕ) (blocks : List (List Goal)) (e : Ending) : Type 0 where
+pub record SearchEnds (th : Theory) (conduct : Conduct) (name : List ℕ) (blocks : List (List Goal)) (e : Ending) : Type 0 where
   pub found : Found
-  pub search : ConditionalSearch th blocks manner found
+  pub search : RewritingSearch th blocks conduct found
   pub is : found_ending th.signature name found ≡ e

@@ -4,7 +4,7 @@ ghost use Rattle.circ_proof.specs.PlainProof.{plain_proof};
 ghost use Rattle.circ_proof.specs.Proof.{Proof as PlainProof, ProofFor};
 ghost use Rattle.circ_plain_search.specs.Numbering.{Proved};
 ghost use Rattle.circ_conditional_search.specs.ConditionalSearch.{CanAllBeSearched};
-ghost use Rattle.circ_search.specs.Plain.{plain_found, manner_with};
+ghost use Rattle.circ_search.specs.Plain.{plain_found, conduct_with};
 ghost use Rattle.circ_files.specs.Texts.{too_long_text, spent_text};
 ghost use Rattle.circ_files.specs.Texts.{too_big_text, too_deep_text};
 ghost use Rattle.circ_files.specs.declared.status.Status.TheVariants as status;
@@ -12,7 +12,7 @@ ghost use Rattle.circ_files.specs.Ending.{ending, plain_ending};
 ghost use Rattle.circ_found.specs.Answering.{SearchEnds, found_ending, proof_ending};
 
 use crate::texts::{proved_text, stuck_text};
-use circ_conditional_search::laws::proved_is_accepted;
+use circ_attempt::laws::proved_is_accepted;
 use circ_file::encode;
 use circ_file::laws::texts_decode;
 use circ_files::{Ending, MOST_BYTES, STORED_FILE, Status, Stored, push_counted, push_spent};
@@ -37,7 +37,7 @@ pub fn search<'a>(
     name: &'a str,
 ) -> Result<Ending<'a>, AllocError>
     requires { CanAllBeSearched theory.now (map (λ b. b.items) blocks.now) }
-    ensures { IfOk result (λ e. SearchEnds theory.now (manner_with limits.now) name.now
+    ensures { IfOk result (λ e. SearchEnds theory.now (conduct_with limits.now) name.now
         (map (λ b. b.items) blocks.now) (plain_ending e)) }
 {
     theory.known();

@@ -9,8 +9,9 @@ use Rattle.circ_proof.specs.Proof.{Proof}
 use Rattle.circ_proof_text.specs.ProofText.{proof_text}
 use Rattle.circ_plain_search.specs.Numbering.{Found, Proved, LongTable, Stuck, Spent, TooBig, TooDeep}
 use Rattle.circ_plain_search.specs.PlainSearch.{IsProofOf}
-use Rattle.circ_conditional_search.specs.ConditionalSearch.{ConditionalSearch, CanAllBeSearched}
-use Rattle.circ_conditional_search.specs.Search.{Manner}
+use Rattle.circ_attempt.specs.RewritingSearch.{RewritingSearch}
+use Rattle.circ_conditional_search.specs.ConditionalSearch.{CanAllBeSearched}
+use Rattle.circ_attempt.specs.Search.{Conduct}
 use Rattle.circ_script.specs.ReadsAsScript.{ReadsAsScript}
 use Rattle.circ_script.specs.Script.{Script}
 use Rattle.circ_script.specs.declared.job.Job.TheVariants.{Prove}
@@ -22,7 +23,7 @@ use Rattle.circ_found.specs.Answering.{proved_text, found_ending, SearchEnds}
 use Rattle.circ_files.specs.Ending.{Stored, stored_as, Ending, ending, plain_ending}
 use Rattle.circ_files.specs.declared.ending.Ending.{Ending as TheEnding}
 use Rattle.circ_generate.specs.Chain.{chain_theory, chain_script}
-use Rattle.circ_generate.specs.Generating.{greatest_manner, summary_text, chain_ending, Generates, searched, IsAcceptedText}
+use Rattle.circ_generate.specs.Generating.{greatest_conduct, summary_text, chain_ending, Generates, searched, IsAcceptedText}
 
 -- where nothing is to be stored, the summary's ending is the search's
 module _ (sig : Signature) (n : ℕ) where
@@ -84,14 +85,14 @@ pub record IsChainProof (th : Theory) (n : ℕ) (f : Found) (bytes : List ℕ) :
   pub accepted : IsAcceptedText th bytes p
   pub ends : chain_ending th.signature n f ≡ ending status.Ok (summary_text n p) None
 
-module _ (law : (th : Theory) → IsWellFormed th → (blocks : List (List Goal)) → CanAllBeSearched th blocks → (manner : Manner) (p : Proof)
-    → ConditionalSearch th blocks manner (Proved p) → IsProofOf th blocks p) (th : Theory) (ok : IsWellFormed th) (sc : Script)
-    (searchable : CanAllBeSearched th sc.blocks) (n : ℕ) (e : Ending) (s : SearchEnds th greatest_manner [] sc.blocks e) where
+module _ (law : (th : Theory) → IsWellFormed th → (blocks : List (List Goal)) → CanAllBeSearched th blocks → (conduct : Conduct) (p : Proof)
+    → RewritingSearch th blocks conduct (Proved p) → IsProofOf th blocks p) (th : Theory) (ok : IsWellFormed th) (sc : Script)
+    (searchable : CanAllBeSearched th sc.blocks) (n : ℕ) (e : Ending) (s : SearchEnds th greatest_conduct [] sc.blocks e) where
   chain_proof : (x : Stored) → e.stored ≡ Some x → IsChainProof th n s.found x.bytes
   chain_proof x some =
       let k = stored_ending th.signature n s.found e x s.is some in
-      let P : Found → Type 0 = ConditionalSearch th sc.blocks greatest_manner in
-      let says = law th ok sc.blocks searchable greatest_manner k.p (subst P k.is s.search) in
+      let P : Found → Type 0 = RewritingSearch th sc.blocks greatest_conduct in
+      let says = law th ok sc.blocks searchable greatest_conduct k.p (subst P k.is s.search) in
       record { p = k.p; accepted = record { text = k.text; fits = says.fits; accepted = says.accepted }; ends = k.ends }
 
   -- the text that is to be stored is that of an accepted proof

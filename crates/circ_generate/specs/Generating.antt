@@ -11,8 +11,8 @@ use Rattle.circ_script.specs.Refusing.{FirstScriptCause}
 use Rattle.circ_script.specs.Script.{Script}
 use Rattle.circ_script.specs.declared.job.Job.TheVariants.{Prove}
 use Rattle.circ_plain_search.specs.Numbering.{Found, Proved}
-use Rattle.circ_conditional_search.specs.ConditionalSearch.{ConditionalSearch}
-use Rattle.circ_conditional_search.specs.Search.{Manner}
+use Rattle.circ_attempt.specs.RewritingSearch.{RewritingSearch}
+use Rattle.circ_attempt.specs.Search.{Conduct}
 use Rattle.circ_files.specs.Texts.{too_long_text, unreadable_text}
 use Rattle.circ_read.specs.ReadsAs.{ReadsAs, FirstCause}
 use Rattle.circ_files.specs.declared.status.Status.TheVariants as status
@@ -20,9 +20,9 @@ use Rattle.circ_found.specs.Answering.{counts_text, derives_in, found_ending}
 use Rattle.circ_files.specs.Ending.{Ending, ending}
 use Rattle.circ_generate.specs.Chain.{chain_theory, chain_script}
 
--- the search with the greatest budgets, in which no hidden goal is split
-abbrev pub greatest_manner : Manner
-greatest_manner = record { limits = record { steps = 1000000; derives = 10000 }; split = false }
+-- the search with the greatest budgets, in which no hidden goal is split and no hypothesis is a rule
+abbrev pub greatest_conduct : Conduct
+greatest_conduct = record { manner = record { limits = record { steps = 1000000; derives = 10000 }; split = false }; rewrite = false }
 
 -- what is printed of the proof of a chain
 abbrev pub summary_text : ℕ → Proof → List ℕ
@@ -50,7 +50,7 @@ pub data Generates (n : ℕ) : Ending → Type 0 where
   no_script : (e : Ending) (th : Theory) (place : ℕ) (c : Cause) → ReadsAs (chain_theory n) th → FirstScriptCause th Prove (chain_script n) place c
       → e ≡ unread_ending 2 place c → Generates n e
   searched : (e : Ending) (th : Theory) (sc : Script) (f : Found) → ReadsAs (chain_theory n) th → ReadsAsScript th Prove (chain_script n) sc
-      → ConditionalSearch th sc.blocks greatest_manner f → e ≡ chain_ending th.signature n f → Generates n e
+      → RewritingSearch th sc.blocks greatest_conduct f → e ≡ chain_ending th.signature n f → Generates n e
 
 -- The bytes are the text of an accepted proof.
 pub record IsAcceptedText (th : Theory) (bytes : List ℕ) (p : Proof) : Type 0 where

@@ -13,8 +13,8 @@ ghost use Rattle.circ_generate.specs.Generating.{Generates, IsAcceptedText, unre
 ghost use Rattle.circ_generate.specs.Generating.{summary_text};
 
 use crate::chain::{chain_script, chain_theory};
+use circ_attempt::laws::proved_is_accepted;
 use circ_check::{Verdict, check};
-use circ_conditional_search::laws::proved_is_accepted;
 use circ_file::laws::texts_decode;
 use circ_file::{FileFault, decode};
 use circ_files::{Ending, SCRIPT_FILE, Status, THEORY_FILE, push_counted, push_unreadable};
@@ -93,6 +93,7 @@ fn with_script<'a>(
         steps: GREATEST_STEPS,
         derives: GREATEST_DERIVES,
         split: false,
+        rewrite: false,
     };
     let Ending {
         status,

@@ -2,7 +2,7 @@
 //!
 //! Nothing is promised of a hint but that it is made safely and in finite time. [`Asked`] takes the
 //! words of a run apart; [`unreadable`], [`unread_expression`], [`stuck_goal`], [`stuck_end`],
-//! [`trace_call`], [`explain_call`], [`misfit`] and [`usage`] give the hint of an answer, from the
+//! [`search_calls`], [`explain_call`], [`misfit`] and [`usage`] give the hint of an answer, from the
 //! same words and the same files. [`SeenLines`] sees the cases and the sides that an answer has
 //! printed, and [`Progress`] how much of a file was taken.
 #![tactic(auto)]
@@ -39,6 +39,6 @@ pub use misfit_hint::misfit;
 pub use progress::Progress;
 pub use run_words::Asked;
 pub use seen_lines::{Seen, SeenLines};
-pub use stuck_hint::{explain_call, stuck_end, stuck_goal, trace_call};
+pub use stuck_hint::{explain_call, search_calls, stuck_end, stuck_goal};
 pub use unreadable_hint::{Source, SourceKind, unreadable};
 pub use usage_hint::usage;

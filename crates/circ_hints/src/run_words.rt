@@ -65,6 +65,11 @@ impl<'a> Asked<'a> {
         self.words.iter().any(|word| word.as_str() == "--split")
     }
 
+    /// Whether `--rewrite` is there, by which hypotheses are rules.
+    pub(crate) fn rewrites(&self) -> bool {
+        self.words.iter().any(|word| word.as_str() == "--rewrite")
+    }
+
     /// The first word before `--` that looks like an option and is none.
     pub(crate) fn unknown_option(&self) -> Option<&'a str> {
         let mut is_value = false;
@@ -82,7 +87,7 @@ impl<'a> Asked<'a> {
     }
 
     /// Appends the words of a command that takes those of this one, a `prove`: with the same
-    /// options, and without the name of the proof.
+    /// options but `--rewrite`, which it makes no use of, and without the name of the proof.
     pub(crate) fn push_as(&self, out: &mut String, command: &str) -> Result<(), AllocError> {
         let mut count: u64 = 0;
         let mut is_value = false;
@@ -95,7 +100,7 @@ impl<'a> Asked<'a> {
             } else if !all_plain && is_option(word) {
                 all_plain = word == "--";
                 is_value = takes_value(word);
-                push_word(out, word)?;
+                push_option(out, word)?;
             } else {
                 push_one_as(out, word, count, command)?;
                 count = count.saturating_add(1);
@@ -144,6 +149,15 @@ fn push_one_as(out: &mut String, word: &str, count: u64, command: &str) -> Resul
     }
 }
 
+/// Appends an option of a search as a command takes it that makes no use of `--rewrite`.
+fn push_option(out: &mut String, word: &str) -> Result<(), AllocError> {
+    if word == "--rewrite" {
+        Ok(())
+    } else {
+        push_word(out, word)
+    }
+}
+
 /// Appends a word behind a blank, between quotes where a shell would take it apart.
 pub(crate) fn push_word(out: &mut String, word: &str) -> Result<(), AllocError> {
     out.push(' ')?;
@@ -169,6 +183,7 @@ fn is_option(word: &str) -> bool {
 fn is_known(word: &str) -> bool {
     takes_value(word)
         || word == "--split"
+        || word == "--rewrite"
         || word.starts_with("--steps=")
         || word.starts_with("--derives=")
 }

@@ -67,15 +67,48 @@ fn push_difference(out: &mut String, asked: Asked<'_>) -> Result<(), AllocError>
     out.push('\n')
 }
 
-/// The call that shows the turns of the search of these words; empty if they are of no `prove`.
-pub fn trace_call(alloc: Global, asked: Asked<'_>) -> Result<String, AllocError> {
+/// The calls that may help with a search that finds no proof: the one that shows its turns, and the
+/// one with the flags that the words lack, unless both sides are constants without a case, which no
+/// flag makes equal. Empty if the words are of no search.
+pub fn search_calls(alloc: Global, asked: Asked<'_>, seen: Seen) -> Result<String, AllocError> {
     let mut out = String::new(alloc);
-    if asked.command() == "prove" {
-        out.push_str("circ: each turn of the search: circ")?;
-        asked.push_as(&mut out, "trace")?;
-        out.push('\n')?;
+    let is_prove = asked.command() == "prove";
+    if is_prove {
+        push_trace(&mut out, asked)?;
+    }
+    let is_decided = seen.are_constants && seen.cases == 0;
+    if (is_prove || asked.command() == "regex") && !is_decided {
+        push_with_flags(&mut out, asked)?;
     }
     Ok(out)
+}
+
+/// Appends the call that shows the turns of the search of a `prove`.
+fn push_trace(out: &mut String, asked: Asked<'_>) -> Result<(), AllocError> {
+    out.push_str(if asked.rewrites() {
+        "circ: each turn of the search without --rewrite: circ"
+    } else {
+        "circ: each turn of the search: circ"
+    })?;
+    asked.push_as(out, "trace")?;
+    out.push('\n')
+}
+
+/// Appends the call with the flags that the words lack, if they lack one.
+fn push_with_flags(out: &mut String, asked: Asked<'_>) -> Result<(), AllocError> {
+    let (rewrites, splits) = (asked.rewrites(), asked.splits());
+    if rewrites && splits {
+        return Ok(());
+    }
+    out.push_str("circ: is it found so? circ")?;
+    if !rewrites {
+        out.push_str(" --rewrite")?;
+    }
+    if !splits {
+        out.push_str(" --split")?;
+    }
+    asked.push_all(out)?;
+    out.push('\n')
 }
 
 /// The call that shows the step that is refused.

@@ -33,24 +33,26 @@ pub(crate) fn unread_word<'a>(
     part: Part,
 ) -> Result<Mark, AllocError> {
     let from = terms_begin(tokens, part);
-    let names = Names {
-        words: Known::before(alloc, Wanted::Words, source, tokens, part.from)?,
-        sorts: Known::before(alloc, Wanted::Sorts, source, tokens, part.from)?,
-        has_conditions: has_conditions(tokens, part),
-    };
-    if let Some(number) = names.undeclared(tokens, from, part.to) {
-        let says = says_of_word(tokens, part, number, &names);
-        return Ok(Mark::naming(number, says));
+    let seen = Names::before(alloc, source, tokens, part)?.seen_mark(tokens, part, from);
+    match seen {
+        Some(mark) => Ok(mark),
+        None => unread_part(alloc, source, tokens, part, from),
     }
-    if let Some(mark) = unbalanced(tokens, from, part.to) {
-        return Ok(mark);
+}
+
+/// The mark behind the longest part that reads, or of the whole.
+fn unread_part(
+    alloc: Global,
+    source: &Source<'_>,
+    tokens: &Tokens<'_>,
+    part: Part,
+    from: usize,
+) -> Result<Mark, AllocError> {
+    if is(tokens, part.from, b"cases") {
+        return Ok(Mark::at(from, NO_TERM));
     }
-    if !is(tokens, part.from, b"cases") {
-        if let Some(mark) = unread_behind(alloc, source, tokens, part, from)? {
-            return Ok(mark);
-        }
-    }
-    Ok(Mark::at(from, NO_TERM))
+    let read = unread_behind(alloc, source, tokens, part, from)?;
+    Ok(read.unwrap_or(Mark::at(from, NO_TERM)))
 }
 
 /// Where the terms of a statement or an item begin.
@@ -64,7 +66,34 @@ fn terms_begin(tokens: &Tokens<'_>, part: Part) -> usize {
     part.nth(1)
 }
 
-impl Names<'_> {
+impl<'a> Names<'a> {
+    /// The names that are declared before a part.
+    fn before(
+        alloc: Global,
+        source: &Source<'a>,
+        tokens: &Tokens<'a>,
+        part: Part,
+    ) -> Result<Names<'a>, AllocError> {
+        let words = Known::before(alloc, Wanted::Words, source, tokens, part.from)?;
+        let sorts = Known::before(alloc, Wanted::Sorts, source, tokens, part.from)?;
+        Ok(Names {
+            words,
+            sorts,
+            has_conditions: has_conditions(tokens, part),
+        })
+    }
+
+    /// The mark of a word that nothing declares, or else of a parenthesis without its other one.
+    fn seen_mark(&self, tokens: &Tokens<'_>, part: Part, from: usize) -> Option<Mark> {
+        match self.undeclared(tokens, from, part.to) {
+            Some(number) => {
+                let says = says_of_word(tokens, part, number, self);
+                Some(Mark::naming(number, says))
+            }
+            None => unbalanced(tokens, from, part.to),
+        }
+    }
+
     /// The first token of a range that no declaration has.
     fn undeclared(&self, tokens: &Tokens<'_>, from: usize, to: usize) -> Option<usize> {
         for number in from..to {

@@ -22,7 +22,8 @@ fn push_usage(out: &mut String, words: &[String]) -> Result<(), AllocError> {
     out.push_str(
         "  --steps N (0 to 1000000) and --derives N (0 to 10000) bound what a command does\n",
     )?;
-    out.push_str("  --split has prove and regex split hidden goals into cases\n")
+    out.push_str("  --split has prove and regex split hidden goals into cases\n")?;
+    out.push_str("  --rewrite has them rewrite hidden goals by what was derived before\n")
 }
 
 /// Whether the words ask for the table.

@@ -9,3 +9,4 @@ pub mod SameForms
 pub mod Standing
 pub mod UsesMade
 pub mod PutIn
+pub mod Bound

@@ -9,8 +9,8 @@ use circ_term::{Kind, Subst, Term};
 use circ_theory::Pair;
 use std::alloc::AllocError;
 
-// Each variable of the conditions that is not bound stands for itself.
-pub(crate) fn bind_conditions(conds: &[Pair], subst: &mut Subst) -> Result<(), AllocError>
+/// Each variable of the conditions that is not bound stands for itself.
+pub fn bind_conditions(conds: &[Pair], subst: &mut Subst) -> Result<(), AllocError>
     ensures { OnOk result (BindsRest (have_pair_variable (map plain_pair conds.now)) subst.old
         subst.new) }
 {

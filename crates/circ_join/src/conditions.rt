@@ -13,10 +13,10 @@ use circ_theory::Pair;
 use circ_tries::Reducer;
 use std::alloc::Global;
 
-// Tries conditions under a substitution: a step, and then one condition after the other, each of
-// which holds where both sides have one normal form. Without conditions there is no step. The
-// answer is the replacements on both sides of each, or None where one does not hold.
-pub(crate) fn passes(
+/// Tries conditions under a substitution: a step, and then one condition after the other, each of
+/// which holds where both sides have one normal form. Without conditions there is no step. The
+/// answer is the replacements on both sides of each, or None where one does not hold.
+pub fn passes(
     alloc: Global,
     reducer: &mut Reducer<'_>,
     conds: &[Pair],
@@ -116,8 +116,8 @@ fn have_same_form(
     }
 }
 
-// Why there is no normal form where a term is not built.
-pub(crate) fn rewrite_fault(fault: TermFault) -> RewriteFault
+/// Why there is no normal form where a term is not built.
+pub fn rewrite_fault(fault: TermFault) -> RewriteFault
     ensures { result ≡ rewrite_fault fault }
 {
     match fault {

@@ -21,9 +21,9 @@ use circ_tries::Reducer;
 use std::alloc::Global;
 
 impl Hypotheses {
-    // The first use of a hypothesis on both terms, which stand at the path. They are tried in
-    // order, each from left to right before the other way about.
-    pub(crate) fn first_use(
+    /// The first use of a hypothesis on both terms, which stand at the path. They are tried in
+    /// order, each from left to right before the other way about.
+    pub fn first_use(
         &self,
         alloc: Global,
         reducer: &mut Reducer<'_>,

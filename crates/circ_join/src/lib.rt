@@ -2,7 +2,9 @@
 //!
 //! [`Joining::join`] makes two terms equal by [`Hypotheses`], [`Passing::pass`] rewrites a term by
 //! [`Lemmas`]. Both go to special paths only, and try the conditions of what they use, which takes
-//! steps. [`put_all`] puts the uses of a Join into a term, [`use_links`] gives uses as links.
+//! steps. [`put_all`] puts the uses of a Join into a term, [`use_links`] gives uses as links. What
+//! both are made of is public: [`Hypotheses::first_use`], [`passes`], [`bind_conditions`],
+//! [`chains_of`], [`put_at`] and [`rewrite_fault`].
 #![tactic(auto)]
 
 mod binding;
@@ -13,13 +15,17 @@ mod joining;
 mod lemmas;
 mod passing;
 mod putting;
+mod reading;
 mod stop;
 mod uses;
 
+pub use binding::bind_conditions;
+pub use conditions::{passes, rewrite_fault};
 pub use hypotheses::Hypotheses;
 pub use joining::Joining;
 pub use lemmas::Lemmas;
 pub use passing::{Passing, Swept};
-pub use putting::put_all;
+pub use putting::{put_all, put_at};
+pub use reading::can_rewrite;
 pub use stop::Stop;
-pub use uses::{HypothesisUse, use_links};
+pub use uses::{HypothesisUse, chains_of, use_links};

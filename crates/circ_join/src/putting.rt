@@ -36,13 +36,8 @@ fn put(alloc: Global, whole: &Term, one: &HypothesisUse) -> Result<Term, Stop>
     }
 }
 
-// The term with this subterm at the path. Where there is no such path it is as before.
-pub(crate) fn put_at(
-    alloc: Global,
-    whole: &Term,
-    path: &[u16],
-    new: &Term,
-) -> Result<Term, TermFault>
+/// The term with this subterm at the path. Where there is no such path it is as before.
+pub fn put_at(alloc: Global, whole: &Term, path: &[u16], new: &Term) -> Result<Term, TermFault>
     requires within { IsWithinLimits new.now }
     ensures { Builds result (unwrap_or (replaced whole.now path.now new.now) whole.now) }
 {

@@ -53,8 +53,8 @@ fn use_link(one: HypothesisUse) -> Link<Term>
     }
 }
 
-// The links on both sides of each condition that holds.
-pub(crate) fn chains_of(alloc: Global, passes: Vec<Pass>) -> Result<Vec<Chain<Term>>, AllocError>
+/// The links on both sides of each condition that holds.
+pub fn chains_of(alloc: Global, passes: Vec<Pass>) -> Result<Vec<Chain<Term>>, AllocError>
     ensures { IfOk result (λ v. plain_chains v.items ≡ chains_by (plain_passes passes.items)) }
 {
     let mut chains = Vec::with_capacity(alloc, passes.len())?;

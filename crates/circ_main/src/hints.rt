@@ -2,7 +2,7 @@
 //! which word is no command, why a file was not read.
 use crate::read_faults::why_unread;
 use circ_hints::{
-    Asked, Seen, Source, explain_call, misfit, stuck_end, stuck_goal, trace_call,
+    Asked, Seen, Source, explain_call, misfit, search_calls, stuck_end, stuck_goal,
     unread_expression, unreadable, usage,
 };
 use circ_read::Cause;
@@ -46,7 +46,7 @@ fn hint<R: Files + AllocGlobal>(
         }
         Status::Stuck { block, goal } => stuck_hint(rt, asked, *block, *goal, seen),
         Status::Spent { .. } | Status::TooBig { .. } | Status::TooDeep { .. } => {
-            Ok(Some(trace_call(rt.alloc(), asked)?))
+            Ok(Some(search_calls(rt.alloc(), asked, seen)?))
         }
         Status::Refused { .. } => Ok(Some(explain_call(rt.alloc(), asked)?)),
         Status::Misfit { entry } => Ok(Some(misfit(rt.alloc(), asked, *entry)?)),
@@ -133,6 +133,6 @@ fn stuck_hint<R: Files + AllocGlobal>(
         script = bytes;
     }
     text.push_str(stuck_end(rt.alloc(), asked, seen, script.as_slice())?.as_str())?;
-    text.push_str(trace_call(rt.alloc(), asked)?.as_str())?;
+    text.push_str(search_calls(rt.alloc(), asked, seen)?.as_str())?;
     Ok(Some(text))
 }

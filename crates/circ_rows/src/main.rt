@@ -16,7 +16,7 @@ use std::alloc::{AllocError, Global};
 use std::{fs, io};
 
 /// The tables, in the order in which they are run.
-const TABLES: [&str; 32] = [
+const TABLES: [&str; 33] = [
     "rows-words",
     "rows-faults",
     "rows-causes",
@@ -38,6 +38,7 @@ const TABLES: [&str; 32] = [
     "rows-circular",
     "rows-conditions",
     "rows-conditional-search",
+    "rows-rewriting",
     "rows-content",
     "rows-changed-contexts",
     "rows-changed-proofs",

@@ -8,11 +8,11 @@ use Rattle.circ_special.specs.declared.place.Place.{Place}
 use Rattle.circ_rewrite.specs.Replacement.{Traced}
 use Rattle.circ_proof.specs.Proof.{Proof}
 use Rattle.circ_plain_search.specs.Greatest.{GreatestSpecialSet}
-use Rattle.circ_plain_search.specs.Search.{Standing, Ending, start}
+use Rattle.circ_plain_search.specs.Search.{Standing, Ending}
 use Rattle.circ_plain_search.specs.Numbering.{Proved, Special}
 use Rattle.circ_plain_search.specs.PlainSearch.{IsProofOf}
-use Rattle.circ_conditional_search.specs.ConditionalSearch.{ConditionalSearch}
-use Rattle.circ_conditional_search.specs.Search.{Manner, Finishes}
+use Rattle.circ_attempt.specs.RewritingSearch.{RewritingSearch, first_going}
+use Rattle.circ_attempt.specs.Search.{Conduct, FinishesRewriting}
 use Rattle.circ_conditional_search.specs.Versions.{versioned_found}
 use Rattle.circ_turn.specs.Ending.{IsEnd, RunEnds}
 use Rattle.circ_turn.specs.declared.end.End.{End}
@@ -45,27 +45,27 @@ pub found_so : {X E : Type 0} (s : Special) (st : Standing) (end : Result X End)
 found_so s st end o h (Ok f) is = (is.0, h ∙ is.1, is.2)
 found_so s st end o h (Err x) is = tt
 
-module _ (th : Theory) (blocks : List (List Goal)) (m : Manner) (G : List Place) (traces : List (List Traced)) (greatest : GreatestSpecialSet th m.limits.steps G traces) where
-  pub found_searched : {X E : Type 0} (st : Standing) (end : Result X End) → RunEnds (Finishes th G m (start m.limits blocks)) st end → (r : Result Found E)
+module _ (th : Theory) (blocks : List (List Goal)) (m : Conduct) (G : List Place) (traces : List (List Traced)) (greatest : GreatestSpecialSet th m.manner.limits.steps G traces) where
+  pub found_searched : {X E : Type 0} (st : Standing) (end : Result X End) → RunEnds (FinishesRewriting th G m (first_going m blocks)) st end → (r : Result Found E)
       → IfOk r (λ f. (x : Ending) × (ending_at st end ≡ Some x) × (plain_found f ≡ versioned_found (special_with G traces) x))
-      → IfOk r (λ f. ConditionalSearch th blocks m (plain_found f))
+      → IfOk r (λ f. RewritingSearch th blocks m (plain_found f))
   found_searched st end run (Ok f) is = record {
     places = G;
     traces = traces;
     greatest = greatest;
     ending = is.0;
-    run = run_ending (Finishes th G m (start m.limits blocks)) st end is.0 is.1 run;
+    run = run_ending (FinishesRewriting th G m (first_going m blocks)) st end is.0 is.1 run;
     is = is.2;
   }
   found_searched st end run (Err x) is = tt
 
 -- what is proved is accepted
-pub proofs_hold : {E : Type 0} (th : Theory) (blocks : List (List Goal)) (m : Manner) (r : Result Found E)
-    → ((p : Proof) → ConditionalSearch th blocks m (Proved p) → IsProofOf th blocks p) → IfOk r (λ f. ConditionalSearch th blocks m (plain_found f))
+pub proofs_hold : {E : Type 0} (th : Theory) (blocks : List (List Goal)) (m : Conduct) (r : Result Found E)
+    → ((p : Proof) → RewritingSearch th blocks m (Proved p) → IsProofOf th blocks p) → IfOk r (λ f. RewritingSearch th blocks m (plain_found f))
     → IfOk r (λ f. IfProved f (IsProofOf th blocks))
 proofs_hold th blocks m (Ok f) law h = go f h
   where
-    go : (f : Found) → ConditionalSearch th blocks m (plain_found f) → IfProved f (IsProofOf th blocks)
+    go : (f : Found) → RewritingSearch th blocks m (plain_found f) → IfProved f (IsProofOf th blocks)
     go (found.Proved proof) p = law _ p
     go (found.LongTable terms) p = tt
     go (found.Stuck b g s t A) p = tt

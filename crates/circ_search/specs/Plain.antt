@@ -10,7 +10,7 @@ use Rattle.circ_plain_search.specs.Search.{Standing, Ending, All_done, Is_stuck,
 use Rattle.circ_plain_search.specs.Numbering.{Found, Proved, LongTable, Stuck, Spent, TooBig, TooDeep, Special, special}
 use Rattle.circ_turn.specs.declared.end.End.{End}
 use Rattle.circ_turn.specs.declared.end.End.TheVariants as end
-pub use Rattle.circ_turn.specs.Standing.{plain_limits, manner_with}
+pub use Rattle.circ_turn.specs.Standing.{plain_limits, manner_with, conduct_with}
 use Rattle.circ_search.specs.declared.found.Found.{Found as TheFound}
 use Rattle.circ_search.specs.declared.found.Found.TheVariants as found
 

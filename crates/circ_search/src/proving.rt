@@ -8,22 +8,23 @@ ghost use Rattle.circ_proof.specs.PlainProof.{plain_proof};
 ghost use Rattle.circ_plain_search.specs.Numbering.{Special, needed};
 ghost use Rattle.circ_plain_search.specs.PlainSearch.{IsProofOf};
 ghost use Rattle.circ_plain_search.specs.Search.{All_done, Ending, start};
-ghost use Rattle.circ_conditional_search.specs.ConditionalSearch.{ConditionalSearch};
+ghost use Rattle.circ_attempt.specs.RewritingSearch.{RewritingSearch};
 ghost use Rattle.circ_conditional_search.specs.ConditionalSearch.{CanAllBeSearched};
 ghost use Rattle.circ_conditional_search.specs.Versions.{versioned_found, versioned_proof};
 ghost use Rattle.circ_turn.specs.Standing.{standing, IsStart};
 ghost use Rattle.circ_numbering.specs.Asking.{GivesProof};
 ghost use Rattle.circ_numbering.specs.Plain.{plain_term_blocks, plain_term_certificates};
 ghost use Rattle.circ_search.specs.Plain.{plain_found, plain_limits, special_with, IfProved};
-ghost use Rattle.circ_search.specs.Plain.{ending_of, ending_at, manner_with};
+ghost use Rattle.circ_search.specs.Plain.{ending_of, ending_at, conduct_with};
 
 use crate::found::Found;
 use crate::versions::version_of;
-use circ_conditional_search::laws::proved_is_accepted;
+use circ_attempt::laws::proved_is_accepted;
 use circ_contexts::special_contexts;
 use circ_numbering::{NumberFault, TermBlock, numbered};
 use circ_proof::{Link, MOST_TERMS, Proof};
 use circ_rewrite::{Trace, links_of};
+use circ_rewriting_turn::run;
 use circ_special::Gamma;
 use circ_term::Term;
 use circ_theory::{Goal, Theory};
@@ -42,8 +43,8 @@ pub fn prove(
     limits: &Limits,
 ) -> Result<Found, AllocError>
     requires searchable { CanAllBeSearched theory.now (map (λ b. b.items) blocks.now) }
-    ensures exact { IfOk result (λ f. ConditionalSearch theory.now
-        (map (λ b. b.items) blocks.now) (manner_with limits.now) (plain_found f)) }
+    ensures exact { IfOk result (λ f. RewritingSearch theory.now
+        (map (λ b. b.items) blocks.now) (conduct_with limits.now) (plain_found f)) }
     ensures accepted { IfOk result (λ f. IfProved f
         (IsProofOf theory.now (map (λ b. b.items) blocks.now))) }
 {
@@ -65,8 +66,8 @@ fn search_with(
     requires searchable { CanAllBeSearched theory.now (map (λ b. b.items) blocks.now) }
     requires greatest { GreatestSpecialSet theory.now limits.now.steps gamma
         (plain_lists traces.items) }
-    ensures exact { IfOk result (λ f. ConditionalSearch theory.now
-        (map (λ b. b.items) blocks.now) (manner_with limits.now) (plain_found f)) }
+    ensures exact { IfOk result (λ f. RewritingSearch theory.now
+        (map (λ b. b.items) blocks.now) (conduct_with limits.now) (plain_found f)) }
 {
     let mut state = State::start(alloc, blocks, limits.steps)?;
     let found = search_from(alloc, theory, limits, gamma, traces, &mut state);
@@ -88,7 +89,7 @@ fn search_from(
         (plain_lists traces.items) }
     ensures { (blocks : List (List TheGoal))
         → standing state.old ≡ start (plain_limits limits.now) blocks
-        → IfOk result (λ f. ConditionalSearch theory.now blocks (manner_with limits.now)
+        → IfOk result (λ f. RewritingSearch theory.now blocks (conduct_with limits.now)
         (plain_found f)) }
 {
     let search = Search {
@@ -97,7 +98,7 @@ fn search_from(
         gamma: &gamma,
         limits: *limits,
     };
-    let end = search.run(state);
+    let end = run(&search, state);
     found_at(alloc, gamma, traces, state, end)
 }
 

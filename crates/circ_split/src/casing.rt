@@ -65,7 +65,7 @@ pub fn case_of(alloc: Global, term: &Term, constant: u32) -> Result<Pair, AllocE
 }
 
 /// The constants of a sort's case list. None where it has no case list.
-pub(crate) fn constants_of(theory: &Theory, sort: u32) -> &[u32]
+pub fn constants_of(theory: &Theory, sort: u32) -> &[u32]
     ensures { result.now ≡ constants_of theory.now sort }
 {
     match theory.cases(sort) {

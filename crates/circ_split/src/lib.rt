@@ -10,7 +10,7 @@ mod opening;
 mod sides;
 mod splitting;
 
-pub use casing::{case_goals, case_of, case_term};
+pub use casing::{case_goals, case_of, case_term, constants_of};
 pub use opening::{first_open, first_open_of};
 pub use sides::{Sides, normal_sides};
 pub use splitting::{Cases, Splitting};

@@ -10,14 +10,15 @@ use Rattle.circ_proof.specs.Proof.{Proof}
 use Rattle.circ_proof.specs.Accepted.{Derives, FirstFail}
 use Rattle.circ_plain_search.specs.Numbering.{Proved}
 use Rattle.circ_plain_search.specs.PlainSearch.{IsProofOf}
-use Rattle.circ_conditional_search.specs.ConditionalSearch.{ConditionalSearch, CanAllBeSearched}
-use Rattle.circ_conditional_search.specs.Search.{Manner}
+use Rattle.circ_attempt.specs.RewritingSearch.{RewritingSearch}
+use Rattle.circ_conditional_search.specs.ConditionalSearch.{CanAllBeSearched}
+use Rattle.circ_attempt.specs.Search.{Conduct}
 use Rattle.circ_top.specs.Answer.{Succeeds, Comes, RefusesCommand, DueAnswer, no_command, work_done, refusal, words_unread, AnswersDue, Succeeded}
 use Rattle.circ_top.specs.Causes.{AtFile, HasLongProof, IsPastLimit, IsReadFault, IsUnwritten, FailsToPut, IsWriteFault, IsQuietRun}
 use Rattle.circ_reports.specs.Check.{report_text, refused, accepted}
 use Rattle.circ_top.specs.Check.{Accepts, Rejects, FilesRead}
 use Rattle.circ_top.specs.Command.{Command, Check, Prove, Show, Contexts, Reduce, Same, Differ, Trace, Regex, Upgrade, Expand, Library, Generate, Asks, IsNotStored, stored_name}
-use Rattle.circ_search.specs.Plain.{manner_with}
+use Rattle.circ_search.specs.Plain.{manner_with, conduct_with}
 use Rattle.circ_top.specs.Scripted.{to_prove, to_differ}
 use Rattle.circ_top.specs.Prove.{IsSearched, StoresProof}
 use Rattle.circ_top.specs.Delivery.{Prints, Delivers, whole, write_failed, memory_wanted, text_wanted}
@@ -142,7 +143,7 @@ module _ (before : ShelfState) where
   pub work_end : (c : Command) (s : Status) (text : List ℕ) (stored : Option Stored) → Comes c s text stored before → IsSearchEnd s
   work_end (Check report theory proof) s text stored a = ok_end s a.0
   work_end (Prove limits theory script proof) s text stored a =
-      search_end a.done.th (manner_with limits) proof a.done.sc.blocks s text stored a.done.ends
+      search_end a.done.th (conduct_with limits) proof a.done.sc.blocks s text stored a.done.ends
   work_end (Show theory) s text stored a = ok_end s a.0
   work_end (Contexts budget theory) s text stored a = ok_end s a.0
   work_end (Reduce budget theory script) s text stored a = ok_end s a.0
@@ -150,7 +151,7 @@ module _ (before : ShelfState) where
   work_end (Differ limits theory script) s text stored a =
       (difference_end a.done.th limits.steps limits.derives a.done.sc.blocks (ending s text stored) a.done.ends).0
   work_end (Trace limits theory script) s text stored a = (trace_end a.done.th (manner_with limits) a.done.sc.blocks (ending s text stored) a.done.ends).0
-  work_end (Regex limits left right proof) s text stored a = search_end LANG (manner_with limits) proof (equality_goals a.e a.f) s text stored a.ends
+  work_end (Regex limits left right proof) s text stored a = search_end LANG (conduct_with limits) proof (equality_goals a.e a.f) s text stored a.ends
   work_end (Upgrade theory proof new) s text stored a = ok_end s a.0
   work_end (Expand theory proof goal derivatives) s text stored a = ok_end s a.0
   work_end (Library given) s text stored a = ok_end s a.0
@@ -209,8 +210,8 @@ module _ (before : ShelfState) where
       → stored_name c ≡ Some x.name
   work_name (Check report theory proof) s text stored x a e = nothing_stored stored x a.1.1 e
   work_name (Prove limits theory script proof) s text stored x a e =
-      let P : Option Stored → Type 0 = λ y. SearchEnds a.done.th (manner_with limits) proof a.done.sc.blocks (ending s text y) in
-      ap Some (sym (search_name a.done.th (manner_with limits) proof a.done.sc.blocks s text x (subst P e a.done.ends)))
+      let P : Option Stored → Type 0 = λ y. SearchEnds a.done.th (conduct_with limits) proof a.done.sc.blocks (ending s text y) in
+      ap Some (sym (search_name a.done.th (conduct_with limits) proof a.done.sc.blocks s text x (subst P e a.done.ends)))
   work_name (Show theory) s text stored x a e = nothing_stored stored x a.1.1 e
   work_name (Contexts budget theory) s text stored x a e = nothing_stored stored x a.1.1 e
   work_name (Reduce budget theory script) s text stored x a e = nothing_stored stored x a.1.1 e
@@ -220,8 +221,8 @@ module _ (before : ShelfState) where
   work_name (Trace limits theory script) s text stored x a e =
       nothing_stored stored x (trace_end a.done.th (manner_with limits) a.done.sc.blocks (ending s text stored) a.done.ends).1 e
   work_name (Regex limits left right proof) s text stored x a e =
-      let P : Option Stored → Type 0 = λ y. SearchEnds LANG (manner_with limits) proof (equality_goals a.e a.f) (ending s text y) in
-      ap Some (sym (search_name LANG (manner_with limits) proof (equality_goals a.e a.f) s text x (subst P e a.ends)))
+      let P : Option Stored → Type 0 = λ y. SearchEnds LANG (conduct_with limits) proof (equality_goals a.e a.f) (ending s text y) in
+      ap Some (sym (search_name LANG (conduct_with limits) proof (equality_goals a.e a.f) s text x (subst P e a.ends)))
   work_name (Upgrade theory proof new) s text stored x a e =
       ap (λ y. Some y.name) (same_Some (upgraded_file new a.1.p) x (sym a.1.stored_is ∙ e))
   work_name (Expand theory proof goal derivatives) s text stored x a e = nothing_stored stored x a.1.1 e
@@ -230,8 +231,8 @@ module _ (before : ShelfState) where
 
 -- what a search proves fits the theory, is accepted, and has exactly the given goals
 abbrev pub ProofsFound : Type 0
-ProofsFound = (th : Theory) → IsWellFormed th → (blocks : List (List Goal)) → CanAllBeSearched th blocks → (manner : Manner) (p : Proof)
-    → ConditionalSearch th blocks manner (Proved p) → IsProofOf th blocks p
+ProofsFound = (th : Theory) → IsWellFormed th → (blocks : List (List Goal)) → CanAllBeSearched th blocks → (conduct : Conduct) (p : Proof)
+    → RewritingSearch th blocks conduct (Proved p) → IsProofOf th blocks p
 
 -- the command that stores, where something is stored
 pub record StoredBy (words : List (List ℕ)) (x : Stored) : Type 0 where
@@ -289,8 +290,8 @@ module _ (words : List (List ℕ)) (before after : ShelfState) (start end : Sink
       let P : Command → Type 0 = λ c. Succeeds c s.text s.stored before in
       let a = subst P (same_command words s.command (Prove limits theory script proof) s.asks i) s.succeeds in
       let d = a.done in
-      let ok = search_ok d.th (manner_with limits) proof d.sc.blocks s.text s.stored d.ends in
-      let says = found d.th d.takes_theory.well_formed d.sc.blocks a.searchable (manner_with limits) ok.p ok.search in
+      let ok = search_ok d.th (conduct_with limits) proof d.sc.blocks s.text s.stored d.ends in
+      let says = found d.th d.takes_theory.well_formed d.sc.blocks a.searchable (conduct_with limits) ok.p ok.search in
       let H : Option Stored → Type 0 = λ x. HoldsAfter x before after in
       let T : List ℕ → Type 0 = λ x. Prints x start end in
       let held = subst H ok.stored_is s.held in
@@ -316,8 +317,8 @@ module _ (words : List (List ℕ)) (before after : ShelfState) (start end : Sink
       let s = answers_succeed q e in
       let P : Command → Type 0 = λ c. Succeeds c s.text s.stored before in
       let a = subst P (same_command words s.command (Regex limits left right proof) s.asks i) s.succeeds in
-      let ok = search_ok LANG (manner_with limits) proof (equality_goals a.e a.f) s.text s.stored a.ends in
-      let says = found LANG a.well_formed (equality_goals a.e a.f) a.searchable (manner_with limits) ok.p ok.search in
+      let ok = search_ok LANG (conduct_with limits) proof (equality_goals a.e a.f) s.text s.stored a.ends in
+      let says = found LANG a.well_formed (equality_goals a.e a.f) a.searchable (conduct_with limits) ok.p ok.search in
       let H : Option Stored → Type 0 = λ x. HoldsAfter x before after in
       let T : List ℕ → Type 0 = λ x. Prints x start end in
       let held = subst H ok.stored_is s.held in

@@ -11,7 +11,7 @@ use Rattle.circ_script.specs.Refusing.{FirstScriptCause}
 use Rattle.circ_script.specs.Script.{Script}
 use Rattle.circ_script.specs.declared.job.Job.TheVariants as job
 use Rattle.circ_plain_search.specs.Numbering.{Found, Proved, LongTable, Stuck, Spent, TooBig, TooDeep}
-use Rattle.circ_conditional_search.specs.ConditionalSearch.{ConditionalSearch}
+use Rattle.circ_attempt.specs.RewritingSearch.{RewritingSearch}
 use Rattle.circ_files.specs.Like.{IsLikeCause, IsLike, itself}
 use Rattle.circ_files.specs.Texts.{too_long_text}
 use Rattle.circ_files.specs.declared.status.Status.TheVariants as status
@@ -19,7 +19,7 @@ use Rattle.circ_files.proofs.Readings.{ReadsOnce}
 use Rattle.circ_files.proofs.Scripts.{ScriptsOnce}
 use Rattle.circ_files.specs.Ending.{Ending, ending}
 use Rattle.circ_generate.specs.Chain.{chain_theory, chain_script}
-use Rattle.circ_generate.specs.Generating.{greatest_manner, summary_text, chain_ending, unread_ending, Generates, no_theory, no_script, searched}
+use Rattle.circ_generate.specs.Generating.{greatest_conduct, summary_text, chain_ending, unread_ending, Generates, no_theory, no_script, searched}
 use Rattle.circ_top.specs.Command.{Generate}
 use Rattle.circ_top.proofs.Refused.{unreadable_like}
 use Rattle.circ_top.proofs.Searches.{IsSearchEnd, SearchesOnce}
@@ -67,7 +67,7 @@ module _ (once : ReadsOnce) (scripts : ScriptsOnce) (searches : SearchesOnce) (n
   -- the second outcome where the theory text reads as this
   data Fixed (th : Theory) (e : Ending) : Type 0 where
     script_refused : (place : ℕ) (c : Cause) → FirstScriptCause th job.Prove (chain_script n) place c → e ≡ unread_ending 2 place c → Fixed th e
-    ends : (sc : Script) (f : Found) → ReadsAsScript th job.Prove (chain_script n) sc → ConditionalSearch th sc.blocks greatest_manner f
+    ends : (sc : Script) (f : Found) → ReadsAsScript th job.Prove (chain_script n) sc → RewritingSearch th sc.blocks greatest_conduct f
         → e ≡ chain_ending th.signature n f → Fixed th e
 
   fixed : (th : Theory) (e : Ending) → ReadsAs (chain_theory n) th → Generates n e → Fixed th e
@@ -78,7 +78,7 @@ module _ (once : ReadsOnce) (scripts : ScriptsOnce) (searches : SearchesOnce) (n
   fixed th e r (searched _ u sc f s q x is) =
       let same : u ≡ th = once.theory (chain_theory n) th u r s in
       let P : Theory → Type 0 = λ v. ReadsAsScript v job.Prove (chain_script n) sc in
-      let Q : Theory → Type 0 = λ v. ConditionalSearch v sc.blocks greatest_manner f in
+      let Q : Theory → Type 0 = λ v. RewritingSearch v sc.blocks greatest_conduct f in
       ends sc f (subst P same q) (subst Q same x) (is ∙ ap (λ v. chain_ending v.signature n f) same)
 
   pub generates_alike : (d e : Ending) → Generates n d → Generates n e → AreLike d e
@@ -103,6 +103,6 @@ module _ (once : ReadsOnce) (scripts : ScriptsOnce) (searches : SearchesOnce) (n
       other (script_refused p c h es) = absurd (scripts.either th job.Prove (chain_script n) sc p c q h)
       other (ends sd y k z es) =
           let same : sd ≡ sc = scripts.script th job.Prove (chain_script n) sc sd q k in
-          let P : Script → Type 0 = λ v. ConditionalSearch th v.blocks greatest_manner y in
-          let found : f ≡ y = searches th sc.blocks greatest_manner f y x (subst P same z) in
+          let P : Script → Type 0 = λ v. RewritingSearch th v.blocks greatest_conduct y in
+          let found : f ≡ y = searches th sc.blocks greatest_conduct f y x (subst P same z) in
           same_like d e (is ∙ ap (chain_ending th.signature n) found ∙ sym es)

@@ -18,15 +18,15 @@ use Rattle.circ_top.specs.Command.{Command, Check, Prove, Show, Contexts, Reduce
 use Rattle.circ_files.specs.Files.{Held, Refusal, RefusesFile, Holds}
 use Rattle.circ_top.specs.InMemory.{HoldsFilesOf, HoldsFiles}
 use Rattle.circ_plain_search.specs.Numbering.{Found}
-use Rattle.circ_conditional_search.specs.ConditionalSearch.{ConditionalSearch}
-use Rattle.circ_conditional_search.specs.Search.{Manner}
+use Rattle.circ_attempt.specs.RewritingSearch.{RewritingSearch}
+use Rattle.circ_attempt.specs.Search.{Conduct}
 use Rattle.circ_files.specs.Ending.{Stored, Ending}
 use Rattle.circ_found.specs.Answering.{found_ending}
 use Rattle.circ_top.specs.Outcome.{Outcome, usage, command}
 use Rattle.circ_files.specs.ProofFile.{ProofRefusal}
 use Rattle.circ_reports.specs.Reduce.{reduced, results_text, not_reduced, all_reduced}
 use Rattle.circ_reports.specs.Reduce as reduce
-use Rattle.circ_search.specs.Plain.{manner_with}
+use Rattle.circ_search.specs.Plain.{manner_with, conduct_with}
 use Rattle.circ_auto.specs.Text.{ReadsAsAutomaton}
 use Rattle.circ_reports.specs.Same.{AutomatonRefusal, SecondRefusal, ReadsOver, compared_status, compared_text, no_first, no_second, compared}
 use Rattle.circ_reports.proofs.SameDecides.{AutomataDecided, first_decides, second_decides, compared_decides}
@@ -49,7 +49,7 @@ use Rattle.circ_reports.specs.Contexts.{not_listed, listed}
 use Rattle.circ_show.specs.PlacesText.{place_lines}
 use Rattle.circ_plain_search.proofs.Existing.{some_set}
 use Rattle.circ_generate.specs.Chain.{chain_theory, chain_script}
-use Rattle.circ_generate.specs.Generating.{Generates, greatest_manner, chain_ending, unread_ending}
+use Rattle.circ_generate.specs.Generating.{Generates, greatest_conduct, chain_ending, unread_ending}
 use Rattle.circ_generate.specs.Generating as generating
 use Rattle.circ_files.specs.ScriptFile.{ScriptRefusal}
 use Rattle.circ_reports.specs.Show.{not_shown, shown}
@@ -106,7 +106,7 @@ no_fault_left th bytes h (Limit_fault n) f = h n cause.LineLimit f
 module _ (reads : (bytes : List ℕ) → ReadOrRefused bytes) (proofs : ProofsDecided)
     (scripts : (th : Theory) (job : Job) (bytes : List ℕ) → ScriptOrCause th job bytes)
     (automata : AutomataDecided)
-    (searches : (th : Theory) (blocks : List (List Goal)) (manner : Manner) → ((f : Found) → ConditionalSearch th blocks manner f → ⊥) → ⊥) (words : List (List ℕ)) (held : Held)
+    (searches : (th : Theory) (blocks : List (List Goal)) (conduct : Conduct) → ((f : Found) → RewritingSearch th blocks conduct f → ⊥) → ⊥) (words : List (List ℕ)) (held : Held)
     (none_is : (s : Status) (text : List ℕ) (stored : Option Stored) → Outcome words held s text stored → ⊥) where
   no_check : (report : Report) (theory proof : List ℕ) → Asks words (Check report theory proof) → HoldsFilesOf held (Check report theory proof) → ⊥
   no_check report theory proof i h = file_decides held 1 theory TheoryRefusal ReadsAs h.0 reads
@@ -155,7 +155,7 @@ module _ (reads : (bytes : List ℕ) → ReadOrRefused bytes) (proofs : ProofsDe
       → HoldsFilesOf held (Prove limits theory script proof) → ⊥
   no_prove limits theory script proof i h = file_decides held 1 theory TheoryRefusal ReadsAs h.0 reads
       (λ th rt. file_decides held 2 script (ScriptRefusal th job.Prove) (ReadsAsScript th job.Prove) h.1 (scripts th job.Prove)
-      (λ q rq. searches th q.blocks (manner_with limits)
+      (λ q rq. searches th q.blocks (conduct_with limits)
       (λ f x. let e : Ending = found_ending th.signature proof f in none_is e.status e.text e.stored
       (command (Prove limits theory script proof) e.status e.text e.stored i
       (goals_done e.status e.text e.stored th q rt rq (record { found = f; search = x; is = refl })))))
@@ -189,7 +189,7 @@ module _ (reads : (bytes : List ℕ) → ReadOrRefused bytes) (proofs : ProofsDe
   no_regex : (limits : Limits) (left right proof : List ℕ) → Asks words (Regex limits left right proof) → ⊥
   no_regex limits left right proof i = word_decides 1 left
       (λ e re. word_decides 2 right
-      (λ f rf. searches LANG (equality_goals e f) (manner_with limits)
+      (λ f rf. searches LANG (equality_goals e f) (conduct_with limits)
       (λ d x. let end : Ending = found_ending LANG.signature proof d in none_is end.status end.text end.stored
       (command (Regex limits left right proof) end.status end.text end.stored i
       (both_read end.status end.text end.stored e f re rf (record { found = d; search = x; is = refl })))))
@@ -242,7 +242,7 @@ module _ (reads : (bytes : List ℕ) → ReadOrRefused bytes) (proofs : ProofsDe
   no_generate : (n : ℕ) → Asks words (Generate n) → ⊥
   no_generate n i = reads (chain_theory n)
       (λ th rt. scripts th job.Prove (chain_script n)
-      (λ sc rs. searches th sc.blocks greatest_manner
+      (λ sc rs. searches th sc.blocks greatest_conduct
       (λ f x. ended n i (chain_ending th.signature n f) (generating.searched (chain_ending th.signature n f) th sc f rt rs x refl)))
       (λ place c f. ended n i (unread_ending 2 place c) (generating.no_script (unread_ending 2 place c) th place c rt f refl)))
       (λ place c f. ended n i (unread_ending 1 place c) (generating.no_theory (unread_ending 1 place c) place c f refl))

@@ -29,3 +29,4 @@ pub mod TheoryTexts
 pub mod Traced
 pub mod LeftOut
 pub mod SecondProves
+pub mod Matching

@@ -26,7 +26,7 @@ use Rattle.circ_top.specs.Prove.{ProofSought}
 use Rattle.circ_top.proofs.ScriptOutcomes.{EndsOnce, to_prove_once, to_differ_once, due_script, done_outcome, refused_agrees, done_agrees}
 use Rattle.circ_top.specs.Scripted.{to_prove, to_differ}
 use Rattle.circ_top.proofs.Searches.{SearchesOnce, one_ending}
-use Rattle.circ_search.specs.Plain.{manner_with}
+use Rattle.circ_search.specs.Plain.{conduct_with}
 use Rattle.circ_turn.specs.declared.search.Limits.{Limits}
 use Rattle.circ_top.proofs.CheckOutcomes.{due_check, accepted_outcome, check_agrees, accepted_agrees}
 use Rattle.circ_top.proofs.ShowOutcomes.{due_show, shown_outcome, show_agrees, shown_agrees}
@@ -101,7 +101,7 @@ due_work (Generate n) s text stored before t a = a
 
 -- a search ends in one way
 one_search : SearchesOnce → (limits : Limits) (name : List ℕ) → EndsOnce (ProofSought limits name)
-one_search searches limits name th blocks d e = one_ending th (manner_with limits) name blocks searches d e
+one_search searches limits name th blocks d e = one_ending th (conduct_with limits) name blocks searches d e
 
 pub due_is : (words : List (List ℕ)) (before after : ShelfState) (s : Status) (text : List ℕ) (stored : Option Stored) → before.tells ≡ true
     → DueAnswer words before after s text stored → DueIs words before after s text stored

@@ -48,6 +48,7 @@ module _ (program name : List ℕ) where
           steps = rw (n.not_minuses, n.not_long, n.not_short, a.not_minuses, a.not_long, a.not_short) refl;
           derives = rw (n.not_minuses, n.not_long, n.not_short, a.not_minuses, a.not_long, a.not_short) refl;
           split = rw (n.not_minuses, n.not_long, n.not_short, a.not_minuses, a.not_long, a.not_short) (unset refl);
+          rewrite = rw (n.not_minuses, n.not_long, n.not_short, a.not_minuses, a.not_long, a.not_short) (unset refl);
           name_is = rw (n.not_minuses, n.not_long, n.not_short, a.not_minuses, a.not_long, a.not_short) (refl {a = Some name});
           given_are = rw (n.not_minuses, n.not_long, n.not_short, a.not_minuses, a.not_long, a.not_short) (refl {a = Some (word ∷ [])});
         };
@@ -70,6 +71,7 @@ module _ (program name : List ℕ) where
           steps = rw (n.not_minuses, n.not_long, n.not_short, a.not_minuses, a.not_long, a.not_short, b.not_minuses, b.not_long, b.not_short) refl;
           derives = rw (n.not_minuses, n.not_long, n.not_short, a.not_minuses, a.not_long, a.not_short, b.not_minuses, b.not_long, b.not_short) refl;
           split = rw (n.not_minuses, n.not_long, n.not_short, a.not_minuses, a.not_long, a.not_short, b.not_minuses, b.not_long, b.not_short) (unset refl);
+          rewrite = rw (n.not_minuses, n.not_long, n.not_short, a.not_minuses, a.not_long, a.not_short, b.not_minuses, b.not_long, b.not_short) (unset refl);
           name_is = rw (n.not_minuses, n.not_long, n.not_short, a.not_minuses, a.not_long, a.not_short, b.not_minuses, b.not_long, b.not_short) (refl {a = Some name});
           given_are = rw (n.not_minuses, n.not_long, n.not_short, a.not_minuses, a.not_long, a.not_short, b.not_minuses, b.not_long, b.not_short) (refl {a = Some (first ∷ second ∷ [])});
         };
@@ -84,6 +86,6 @@ module _ (program name : List ℕ) where
     name = name;
     given = first ∷ second ∷ [];
     taken = refl;
-    finds = record { steps = refl; derives = refl; split = unset refl; name_is = refl; given_are = refl };
+    finds = record { steps = refl; derives = refl; split = unset refl; rewrite = unset refl; name_is = refl; given_are = refl };
     is = i;
   }

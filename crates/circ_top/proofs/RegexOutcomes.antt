@@ -19,7 +19,7 @@ use Rattle.circ_files.specs.declared.status.Status.{Status}
 use Rattle.circ_files.specs.declared.status.Status.TheVariants as status
 use Rattle.circ_files.specs.Ending.{Stored, ending}
 use Rattle.circ_found.specs.Answering.{SearchEnds}
-use Rattle.circ_search.specs.Plain.{manner_with}
+use Rattle.circ_search.specs.Plain.{conduct_with}
 use Rattle.circ_turn.specs.declared.search.Limits.{Limits}
 use Rattle.circ_top.specs.Command.{Regex, Asks}
 use Rattle.circ_top.specs.Outcome.{command}
@@ -175,11 +175,11 @@ module _ (limits : Limits) (left right name : List ℕ) where
     equality_agrees r given other a s _ _ (no_left _ b) = absurd (spells_not_refused 1 left a.e s a.left_is b)
     equality_agrees r given other a s _ _ (no_right _ e t b) = absurd (spells_not_refused 2 right a.f s a.right_is b)
     equality_agrees r given other a s text stored (both_read _ _ _ e f t u x) =
-        let P : Expression → Type 0 = λ y. SearchEnds LANG (manner_with limits) name (equality_goals y f) (ending s text stored) in
-        let Q : Expression → Type 0 = λ y. SearchEnds LANG (manner_with limits) name (equality_goals a.e y) (ending s text stored) in
+        let P : Expression → Type 0 = λ y. SearchEnds LANG (conduct_with limits) name (equality_goals y f) (ending s text stored) in
+        let Q : Expression → Type 0 = λ y. SearchEnds LANG (conduct_with limits) name (equality_goals a.e y) (ending s text stored) in
         let ends = subst Q (once right f a.f u a.right_is) (subst P (once left e a.e t a.left_is) x) in
         let same : ending s text stored ≡ ending r given other =
-        one_ending LANG (manner_with limits) name (equality_goals a.e a.f) searches (ending s text stored) (ending r given other) ends a.ends in
+        one_ending LANG (conduct_with limits) name (equality_goals a.e a.f) searches (ending s text stored) (ending r given other) ends a.ends in
         let R : Status → Type 0 = λ y. IsLike s text y text in
         let S : List ℕ → Type 0 = λ y. IsLike s text r y in
         agreed r given other (subst S (ap (λ y. y.text) same) (subst R (ap (λ y. y.status) same) (itself s text))) (sym (ap (λ y. y.stored) same))

@@ -193,8 +193,8 @@ same_flag value true false f g = sym (g.1 (f.0 refl))
 same_flag value false true f g = f.1 (g.0 refl)
 same_flag value false false f g = refl
 
-abbrev limits_of : (steps derives : ℕ) → Bool → Limits
-limits_of n m b = record { steps = n; derives = m; split = b }
+abbrev limits_of : (steps derives : ℕ) → (split rewrite : Bool) → Limits
+limits_of n m b r = record { steps = n; derives = m; split = b; rewrite = r }
 
 module _ (rows : List Row) (k l : Limits) (m n : List ℕ) (v w : List (List ℕ)) (f : Finds rows k m v) (g : Finds rows l n w) where
   same_limits : k ≡ l
@@ -202,7 +202,8 @@ module _ (rows : List Row) (k l : Limits) (m n : List ℕ) (v w : List (List ℕ
       let steps = same_budget 100000 1000000 (first_of (codes "steps") rows) k.steps l.steps (omega arith) f.steps g.steps in
       let derives = same_budget 256 10000 (first_of (codes "derives") rows) k.derives l.derives (omega arith) f.derives g.derives in
       let split = same_flag (first_of (codes "split") rows) k.split l.split f.split g.split in
-      ap₂ (λ n m. limits_of n m k.split) steps derives ∙ ap (limits_of l.steps l.derives) split
+      let rewrite = same_flag (first_of (codes "rewrite") rows) k.rewrite l.rewrite f.rewrite g.rewrite in
+      ap₂ (λ n m. limits_of n m k.split k.rewrite) steps derives ∙ ap₂ (limits_of l.steps l.derives) split rewrite
 
   same_name : m ≡ n
   same_name = same_Some m n (sym f.name_is ∙ g.name_is)

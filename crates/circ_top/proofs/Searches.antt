@@ -7,8 +7,8 @@ use Rattle.circ_theory.specs.declared.parts.Goal.{Goal}
 use Rattle.circ_proof.specs.Proof.{Proof}
 use Rattle.circ_proof_text.specs.ProofText.{proof_text}
 use Rattle.circ_plain_search.specs.Numbering.{Found, Proved, LongTable, Stuck, Spent, TooBig, TooDeep}
-use Rattle.circ_conditional_search.specs.ConditionalSearch.{ConditionalSearch}
-use Rattle.circ_conditional_search.specs.Search.{Manner}
+use Rattle.circ_attempt.specs.RewritingSearch.{RewritingSearch}
+use Rattle.circ_attempt.specs.Search.{Conduct}
 use Rattle.circ_files.specs.Texts.{too_long_text}
 use Rattle.circ_files.specs.declared.status.Status.{Status}
 use Rattle.circ_files.specs.declared.status.Status.TheVariants as status
@@ -29,8 +29,8 @@ IsSearchEnd _ = ⊥
 
 -- there is one search of given goals
 abbrev pub SearchesOnce : Type 0
-SearchesOnce = (th : Theory) (blocks : List (List Goal)) (manner : Manner) (a b : Found) → ConditionalSearch th blocks manner a
-    → ConditionalSearch th blocks manner b → a ≡ b
+SearchesOnce = (th : Theory) (blocks : List (List Goal)) (conduct : Conduct) (a b : Found) → RewritingSearch th blocks conduct a
+    → RewritingSearch th blocks conduct b → a ≡ b
 
 -- what is stored goes under this name
 abbrev IsNamed : (name : List ℕ) → Option Stored → Type 0
@@ -75,26 +75,26 @@ module _ (sig : Signature) (name : List ℕ) where
   found_ok (TooDeep n) s = absurd (let never : status.TooDeep n ≡ status.Ok = s in cc)
 
 -- what a search says that ends with 0
-pub record IsProved (th : Theory) (manner : Manner) (name : List ℕ) (blocks : List (List Goal)) (text : List ℕ) (stored : Option Stored) : Type 0 where
+pub record IsProved (th : Theory) (conduct : Conduct) (name : List ℕ) (blocks : List (List Goal)) (text : List ℕ) (stored : Option Stored) : Type 0 where
   pub p : Proof
-  pub search : ConditionalSearch th blocks manner (Proved p)
+  pub search : RewritingSearch th blocks conduct (Proved p)
   pub short : length (proof_text p) ≤ 67108864
   pub text_is : text ≡ proved_text th.signature p
   pub stored_is : stored ≡ Some (stored_as name (proof_text p))
 
-module _ (th : Theory) (manner : Manner) (name : List ℕ) (blocks : List (List Goal)) where
-  pub search_end : (s : Status) (text : List ℕ) (stored : Option Stored) → SearchEnds th manner name blocks (ending s text stored) → IsSearchEnd s
+module _ (th : Theory) (conduct : Conduct) (name : List ℕ) (blocks : List (List Goal)) where
+  pub search_end : (s : Status) (text : List ℕ) (stored : Option Stored) → SearchEnds th conduct name blocks (ending s text stored) → IsSearchEnd s
   search_end s text stored e =
       let P : Ending → Type 0 = λ x. IsSearchEnd x.status in subst P e.is (found_end th.signature name e.found).0
 
-  pub search_name : (s : Status) (text : List ℕ) (x : Stored) → SearchEnds th manner name blocks (ending s text (Some x)) → x.name ≡ name
+  pub search_name : (s : Status) (text : List ℕ) (x : Stored) → SearchEnds th conduct name blocks (ending s text (Some x)) → x.name ≡ name
   search_name s text x e = let P : Ending → Type 0 = λ y. IsNamed name y.stored in subst P e.is (found_end th.signature name e.found).1
 
-  pub search_ok : (text : List ℕ) (stored : Option Stored) → SearchEnds th manner name blocks (ending status.Ok text stored)
-      → IsProved th manner name blocks text stored
+  pub search_ok : (text : List ℕ) (stored : Option Stored) → SearchEnds th conduct name blocks (ending status.Ok text stored)
+      → IsProved th conduct name blocks text stored
   search_ok text stored e =
       let ok = found_ok th.signature name e.found (ap (λ x. x.status) e.is) in
-      let P : Found → Type 0 = ConditionalSearch th blocks manner in
+      let P : Found → Type 0 = RewritingSearch th blocks conduct in
       record {
         p = ok.0;
         search = subst P ok.1 e.search;
@@ -103,5 +103,5 @@ module _ (th : Theory) (manner : Manner) (name : List ℕ) (blocks : List (List 
         stored_is = sym (ap (λ x. x.stored) e.is) ∙ ok.2.stored_is;
       }
 
-  pub one_ending : SearchesOnce → (d e : Ending) → SearchEnds th manner name blocks d → SearchEnds th manner name blocks e → d ≡ e
-  one_ending once d e a b = sym a.is ∙ ap (found_ending th.signature name) (once th blocks manner a.found b.found a.search b.search) ∙ b.is
+  pub one_ending : SearchesOnce → (d e : Ending) → SearchEnds th conduct name blocks d → SearchEnds th conduct name blocks e → d ≡ e
+  one_ending once d e a b = sym a.is ∙ ap (found_ending th.signature name) (once th blocks conduct a.found b.found a.search b.search) ∙ b.is

@@ -32,7 +32,15 @@ module _ (rows : List Row) where
   pub none_given : None ≡ all_of (codes "words") rows → FindsNothing rows
   none_given e limits name given f = let never : None ≡ Some given = e ∙ f.given_are in cc
 
-  pub finds : (s d p : Option (List ℕ)) (limits : Limits) (name : List ℕ) (given : List (List ℕ)) → s ≡ first_of (codes "steps") rows
+  pub finds : (s d p q : Option (List ℕ)) (limits : Limits) (name : List ℕ) (given : List (List ℕ)) → s ≡ first_of (codes "steps") rows
       → IsBudget 100000 1000000 s limits.steps → d ≡ first_of (codes "derives") rows → IsBudget 256 10000 d limits.derives
-      → p ≡ first_of (codes "split") rows → IsFlag p limits.split → Some name ≡ first_of (codes "command") rows → Some given ≡ all_of (codes "words") rows → Finds rows limits name given
-  finds s d p limits name given e a f b i k g h = record { steps = rw e at a; derives = rw f at b; split = rw i at k; name_is = sym g; given_are = sym h }
+      → p ≡ first_of (codes "split") rows → IsFlag p limits.split → q ≡ first_of (codes "rewrite") rows → IsFlag q limits.rewrite
+      → Some name ≡ first_of (codes "command") rows → Some given ≡ all_of (codes "words") rows → Finds rows limits name given
+  finds s d p q limits name given e a f b i k j l g h = record {
+    steps = rw e at a;
+    derives = rw f at b;
+    split = rw i at k;
+    rewrite = rw j at l;
+    name_is = sym g;
+    given_are = sym h;
+  }

@@ -8,4 +8,4 @@ IsPlainWord word = (rest : List ℕ) → word ≡ 45 ∷ rest → ⊥
 
 -- the limits where the words have no option
 abbrev pub usual_limits : Limits
-usual_limits = record { steps = 100000; derives = 256; split = false }
+usual_limits = record { steps = 100000; derives = 256; split = false; rewrite = false }

@@ -15,7 +15,7 @@ use Rattle.circ_files.specs.declared.status.Status.{Status}
 use Rattle.circ_files.specs.Ending.{Stored, Ending}
 use Rattle.circ_found.specs.Answering.{proved_text, SearchEnds}
 use Rattle.circ_top.specs.Command.{Prove}
-use Rattle.circ_search.specs.Plain.{manner_with}
+use Rattle.circ_search.specs.Plain.{conduct_with}
 use Rattle.circ_conditional_search.specs.ConditionalSearch.{CanAllBeSearched}
 use Rattle.circ_top.specs.Delivery.{Prints}
 use Rattle.circ_top.specs.Scripted.{GoalsEnd, to_prove, ScriptOutcome, IsDoneOn}
@@ -23,7 +23,7 @@ use Rattle.circ_turn.specs.declared.search.Limits.{Limits}
 
 -- how the search for a proof of the goals ends, within limits, where the proof is stored under a name
 abbrev pub ProofSought : (limits : Limits) → (name : List ℕ) → GoalsEnd
-ProofSought limits name th blocks e = SearchEnds th (manner_with limits) name blocks e
+ProofSought limits name th blocks e = SearchEnds th (conduct_with limits) name blocks e
 
 abbrev pub ProveOutcome : Held → Limits → (theory script name : List ℕ) → Status → (text : List ℕ) → (stored : Option Stored) → Type 0
 ProveOutcome held limits theory script name s text stored =

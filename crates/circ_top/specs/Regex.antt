@@ -19,7 +19,7 @@ use Rattle.circ_files.specs.declared.status.Status.{Status}
 use Rattle.circ_files.specs.declared.status.Status.TheVariants as status
 use Rattle.circ_files.specs.Ending.{Stored, Ending, ending}
 use Rattle.circ_found.specs.Answering.{proved_text, SearchEnds}
-use Rattle.circ_search.specs.Plain.{manner_with}
+use Rattle.circ_search.specs.Plain.{conduct_with}
 use Rattle.circ_top.specs.Command.{Regex}
 use Rattle.circ_top.specs.Delivery.{Prints}
 use Rattle.circ_top.specs.Refusals.{refusal_text}
@@ -52,7 +52,7 @@ pub data RegexOutcome (limits : Limits) (left right name : List ℕ) : Status �
   no_right : (s : Status) (e : Expression) → IsTextOfRegex left e → RefusesWord 2 right s
       → RegexOutcome limits left right name s (refusal_text (Regex limits left right name) s) None
   both_read : (s : Status) (text : List ℕ) (stored : Option Stored) (e f : Expression) → IsTextOfRegex left e → IsTextOfRegex right f
-      → SearchEnds LANG (manner_with limits) name (equality_goals e f) (ending s text stored) → RegexOutcome limits left right name s text stored
+      → SearchEnds LANG (conduct_with limits) name (equality_goals e f) (ending s text stored) → RegexOutcome limits left right name s text stored
 
 -- The two words are expressions, the equality of their terms can be searched in LANG, and the search ends so.
 pub record IsEqualitySearched (limits : Limits) (left right name : List ℕ) (end : Ending) : Type 0 where
@@ -62,7 +62,7 @@ pub record IsEqualitySearched (limits : Limits) (left right name : List ℕ) (en
   pub right_is : IsTextOfRegex right f
   pub well_formed : IsWellFormed LANG
   pub searchable : CanAllBeSearched LANG (equality_goals e f)
-  pub ends : SearchEnds LANG (manner_with limits) name (equality_goals e f) end
+  pub ends : SearchEnds LANG (conduct_with limits) name (equality_goals e f) end
 
 -- Why there is no search: the first word is no expression; or it is one, and the second is none; or memory ran out.
 pub data RefusesRegex (left right : List ℕ) : Status → Type 0 where

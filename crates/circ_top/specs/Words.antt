@@ -1,4 +1,4 @@
--- The words of the command line, as `clap` reads them. Two options have a value each, a flag has none, the first other word names the command, and one
+-- The words of the command line, as `clap` reads them. Two options have a value each, two flags have none, the first other word names the command, and one
 -- word or more are left for it.
 use Rattle.std.specs.Prelude.{◌≡◌, ◌↔◌, ◌≤◌, ℕ, Bool, IsTrue, List, Option, Some, None, true, codes, decimal}
 use Rattle.clap.specs.Lexer.{usize_max}
@@ -16,6 +16,9 @@ derives_rule = record (new_rule (codes "derives")) { long = Some (codes "derives
 abbrev pub split_rule : Rule
 split_rule = record (new_rule (codes "split")) { long = Some (codes "split"); action = Some SetTrue }
 
+abbrev pub rewrite_rule : Rule
+rewrite_rule = record (new_rule (codes "rewrite")) { long = Some (codes "rewrite"); action = Some SetTrue }
+
 abbrev pub command_rule : Rule
 command_rule = record (new_rule (codes "command")) { required = true }
 
@@ -24,7 +27,9 @@ words_rule = record (new_rule (codes "words")) { required = true; range = Some (
 
 -- the simple command that `clap` is asked for
 abbrev pub circ_app : App
-circ_app = with_rule (with_rule (with_rule (with_rule (with_rule (new_app (codes "circ")) steps_rule) derives_rule) split_rule) command_rule) words_rule
+circ_app =
+    with_rule (with_rule (with_rule (with_rule (with_rule (with_rule (new_app (codes "circ")) steps_rule) derives_rule) split_rule) rewrite_rule) command_rule)
+    words_rule
 
 -- The text is no number within the limit.
 abbrev pub IsNoNumber : (most : ℕ) → (text : List ℕ) → Type 0
@@ -47,6 +52,7 @@ pub record Finds (rows : List Row) (limits : Limits) (name : List ℕ) (given : 
   pub steps : IsBudget 100000 1000000 (first_of (codes "steps") rows) limits.steps
   pub derives : IsBudget 256 10000 (first_of (codes "derives") rows) limits.derives
   pub split : IsFlag (first_of (codes "split") rows) limits.split
+  pub rewrite : IsFlag (first_of (codes "rewrite") rows) limits.rewrite
   pub name_is : first_of (codes "command") rows ≡ Some name
   pub given_are : all_of (codes "words") rows ≡ Some given
 

@@ -37,8 +37,8 @@ use crate::refusals::{refusal, usage};
 use crate::regex::regex;
 use crate::request::{Request, asked};
 use crate::trace::trace;
+use circ_attempt::laws::{one_answer as one_search, proved_is_accepted};
 use circ_auto::laws::read_in_one_way as automata_read_in_one_way;
-use circ_conditional_search::laws::{one_answer as one_search, proved_is_accepted};
 use circ_files::{Ending, Status, Stored};
 use circ_generate::generate;
 use circ_outer::{OuterFault, Shelf, Sink, write_all};
@@ -58,7 +58,8 @@ use std::alloc::Global;
 /// `contexts THEORY`, `reduce THEORY SCRIPT`, `same FIRST SECOND`, `differ THEORY SCRIPT`,
 /// `trace THEORY SCRIPT`, `regex LEFT RIGHT PROOF`, `upgrade THEORY PROOF NEW`,
 /// `expand THEORY PROOF GOAL ENTRY*`, `library NAME` or `generate NUMBER`. The options
-/// `--steps N` and `--derives N` and the flag `--split` may stand before, behind or between them.
+/// `--steps N` and `--derives N` and the flags `--split` and `--rewrite` may stand before, behind or
+/// between them.
 /// The files are taken from the shelf, to which `prove`, `regex` and `upgrade` store a proof, and
 /// the text of the answer is written to the sink, whole.
 pub fn circ<S: Shelf, K: Sink>(

@@ -32,8 +32,8 @@ ghost use Rattle.circ_top.specs.InMemory.{HoldsFiles};
 ghost use Rattle.circ_top.specs.PlainWords.{IsPlainWord, usual_limits};
 ghost use Rattle.circ_files.specs.declared.files.TheConstants.{MOST_BYTES, PIECE};
 
+use circ_attempt::laws::some_answer;
 use circ_auto::laws::read_or_refused as automata_read_or_refused;
-use circ_conditional_search::laws::some_answer;
 use circ_proof_text::laws::{
     nothing_left_out as nothing_left_out_of_texts, one_answer, text_reads_back,
 };

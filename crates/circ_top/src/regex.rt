@@ -7,7 +7,7 @@ ghost use Rattle.circ_regex.specs.Lang.{LANG};
 ghost use Rattle.circ_regex.specs.Matches.{plain_regex};
 ghost use Rattle.circ_regex.specs.Member.{expression_term};
 ghost use Rattle.circ_conditional_search.specs.ConditionalSearch.{CanAllBeSearched};
-ghost use Rattle.circ_search.specs.Plain.{manner_with};
+ghost use Rattle.circ_search.specs.Plain.{conduct_with};
 ghost use Rattle.circ_found.specs.Answering.{SearchEnds};
 ghost use Rattle.circ_files.specs.Ending.{plain_ending};
 ghost use Rattle.circ_top.specs.Regex.{IsWordFault, equality_goals, IsEqualitySearched};
@@ -83,7 +83,7 @@ fn equality<'a>(
     right: &Regex,
     name: &'a str,
 ) -> Result<Ending<'a>, AllocError>
-    ensures ends { IfOk result (λ e. SearchEnds LANG (manner_with limits) name.now
+    ensures ends { IfOk result (λ e. SearchEnds LANG (conduct_with limits) name.now
         (equality_goals (plain_regex left.now) (plain_regex right.now)) (plain_ending e)) }
     ensures searchable { IfOk result (λ _. CanAllBeSearched LANG
         (equality_goals (plain_regex left.now) (plain_regex right.now))) }

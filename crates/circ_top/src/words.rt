@@ -5,7 +5,8 @@ ghost use Rattle.clap.specs.Faults.{fault_of};
 ghost use Rattle.clap.specs.Matches.{found_of};
 ghost use Rattle.clap.specs.Simple.{app_of, matches_of, new_app, with_rule};
 ghost use Rattle.clap.specs.Walk.{rule_of, rows_of};
-ghost use Rattle.circ_top.specs.Words.{steps_rule, derives_rule, split_rule, command_rule};
+ghost use Rattle.circ_top.specs.Words.{steps_rule, derives_rule, split_rule, rewrite_rule};
+ghost use Rattle.circ_top.specs.Words.{command_rule};
 ghost use Rattle.circ_top.specs.Words.{words_rule, circ_app, IsBudget, IsNoBudget, IsNoNumber};
 ghost use Rattle.circ_top.specs.Words.{IsFlag, Finds, FindsNothing};
 
@@ -59,12 +60,14 @@ pub(crate) fn found<'m, 'a>(matches: &'m ArgMatches<'a>) -> Option<Words<'m, 'a>
     let steps = budget(matches.get_str("steps"), USUAL_STEPS, GREATEST_STEPS)?;
     let derives = budget(matches.get_str("derives"), USUAL_DERIVES, GREATEST_DERIVES)?;
     let split = is_set(matches.get_str("split"));
+    let rewrite = is_set(matches.get_str("rewrite"));
     let name = matches.get_str("command")?;
     let given = matches.get_strs("words")?;
     let limits = Limits {
         steps,
         derives,
         split,
+        rewrite,
     };
     Some(Words {
         limits,
@@ -128,17 +131,18 @@ fn definition<'a>(alloc: Global) -> Result<Command<'a>, AllocError>
     command.arg(command_arg(alloc))?.arg(words_arg(alloc))
 }
 
-/// The options and the flag alone.
+/// The options and the flags alone.
 fn with_options<'a>(alloc: Global) -> Result<Command<'a>, AllocError>
     ensures { IfOk result (λ c. app_of c ≡
-        with_rule (with_rule (with_rule (new_app (codes "circ")) steps_rule) derives_rule)
-        split_rule) }
+        with_rule (with_rule (with_rule (with_rule (new_app (codes "circ")) steps_rule)
+        derives_rule) split_rule) rewrite_rule) }
 {
     let command = Command::new(alloc, "circ");
     command
         .arg(steps_arg(alloc))?
         .arg(derives_arg(alloc))?
-        .arg(split_arg(alloc))
+        .arg(split_arg(alloc))?
+        .arg(rewrite_arg(alloc))
 }
 
 fn steps_arg<'a>(alloc: Global) -> Arg<'a>
@@ -161,6 +165,15 @@ fn split_arg<'a>(alloc: Global) -> Arg<'a>
 {
     Arg::new(alloc, "split")
         .long("split")
+        .action(ArgAction::SetTrue)
+}
+
+fn rewrite_arg<'a>(alloc: Global) -> Arg<'a>
+    ensures rule { rule_of result ≡ rewrite_rule }
+    ensures local { result.global ≡ false }
+{
+    Arg::new(alloc, "rewrite")
+        .long("rewrite")
         .action(ArgAction::SetTrue)
 }
 

@@ -11,6 +11,7 @@ use Rattle.circ_plain_search.specs.Greatest.{GreatestSpecialSet}
 use Rattle.circ_plain_search.specs.Numbering.{Found, special}
 use Rattle.circ_plain_search.proofs.Unique.{one_set}
 use Rattle.circ_plain_search.proofs.Existing.{some_set}
+use Rattle.circ_attempt.proofs.Without.{from_conditional}
 use Rattle.circ_conditional_search.specs.ConditionalSearch.{ConditionalSearch}
 use Rattle.circ_conditional_search.specs.Search.{Manner}
 use Rattle.circ_conditional_search.specs.Versions.{versioned_found}
@@ -20,7 +21,7 @@ use Rattle.circ_files.specs.Ending.{Ending, plain_ending}
 use Rattle.circ_files.specs.declared.ending.Ending.{Ending as TheEnding}
 use Rattle.circ_trace.specs.Descents.{first_row, given_row}
 use Rattle.circ_trace.specs.Telling.{IsTold}
-use Rattle.circ_trace.specs.Tracing.{Turns, turns_text, after_lines, TraceEnds}
+use Rattle.circ_trace.specs.Tracing.{Turns, turns_text, after_lines, TraceEnds, without_rules}
 use Rattle.circ_trace.proofs.Telling.{turns_finish, one_course, some_turns}
 
 module _ (th : Theory) (m : Manner) (blocks : List (List Goal)) where
@@ -48,10 +49,10 @@ module _ (th : Theory) (m : Manner) (blocks : List (List Goal)) where
   }
 
   pub as_search : (e : Ending) → TraceEnds th m blocks e
-      → (f : Ending) × SearchEnds th m [] blocks f × (lines : List ℕ) × (e ≡ after_lines lines f)
+      → (f : Ending) × SearchEnds th (without_rules m) [] blocks f × (lines : List ℕ) × (e ≡ after_lines lines f)
   as_search e t = (
     found_ending th.signature [] (found_in t),
-    record { found = found_in t; search = trace_search e t; is = refl },
+    record { found = found_in t; search = from_conditional th blocks (without_rules m) (found_in t) refl (trace_search e t); is = refl },
     turns_text th t.places m.split (first_row blocks) t.standings,
     sym t.is,
   )

@@ -1,5 +1,5 @@
 -- What `trace` answers: the lines of each turn of the search, and then what `prove` would answer.
-use Rattle.std.specs.Prelude.{◌≡◌, ℕ, Bool, List, [], ◌∷◌, ◌++◌, map, None, Ok, Err}
+use Rattle.std.specs.Prelude.{false, ◌≡◌, ℕ, Bool, List, [], ◌∷◌, ◌++◌, map, None, Ok, Err}
 use Rattle.circ_theory.specs.Theory.{Theory}
 use Rattle.circ_theory.specs.declared.parts.Goal.{Goal}
 use Rattle.circ_special.specs.declared.place.Place.{Place}
@@ -8,6 +8,7 @@ use Rattle.circ_rewrite.specs.Replacement.{Traced}
 use Rattle.circ_plain_search.specs.Greatest.{GreatestSpecialSet}
 use Rattle.circ_plain_search.specs.Numbering.{special}
 use Rattle.circ_plain_search.specs.Search.{Standing, Ending as SearchEnding, start}
+use Rattle.circ_attempt.specs.Search.{Conduct}
 use Rattle.circ_conditional_search.specs.Search.{Manner, turn_trying}
 use Rattle.circ_conditional_search.specs.Versions.{versioned_found}
 use Rattle.circ_found.specs.Answering.{found_ending}
@@ -16,6 +17,10 @@ use Rattle.circ_trace.specs.Account.{account}
 use Rattle.circ_trace.specs.Descents.{after_turn, first_row}
 use Rattle.circ_trace.specs.TurnText.{turn_text}
 use Rattle.circ_trace.specs.declared.descent.Descent.{Descent}
+
+-- the same search, in which no hypothesis is a rule
+abbrev pub without_rules : Manner → Conduct
+without_rules m = record { manner = m; rewrite = false }
 
 -- From here the search has its turns in these standings, of which this is the first, and ends so.
 pub data Turns (th : Theory) (G : List Place) (m : Manner) : Standing → List Standing → SearchEnding → Type 0 where

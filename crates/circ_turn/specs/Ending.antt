@@ -15,13 +15,11 @@ use Rattle.circ_conditional_search.specs.Joining.{Swept}
 use Rattle.circ_conditional_search.specs.Search.{Manner, open_turn_trying, pass_chain, passed_sides, with_sides_of}
 use Rattle.circ_proof.specs.Plain.{plain_chain}
 use Rattle.circ_proof.specs.declared.links.Chain.{Chain}
-use Rattle.circ_join.specs.Sweeping.{plain_swept}
 use Rattle.circ_join.specs.Stopping.{Stops}
 use Rattle.circ_join.specs.declared.stop.Stop.{Stop}
 use Rattle.circ_join.specs.declared.stop.Stop.TheVariants as stop
 use Rattle.circ_turn.specs.declared.end.End.{End}
 use Rattle.circ_turn.specs.declared.end.End.TheVariants as end
-use Rattle.circ_turn.specs.declared.turns.SweptSides.{SweptSides}
 use Rattle.circ_turn.specs.Standing.{unlinked}
 
 -- the search ends so, or memory ran out
@@ -83,10 +81,6 @@ cases_made th l st g rest u =
 abbrev pub swept_turn : Theory → Manner → Standing → Goal → (rest : List Goal) → Swept × Swept → Result Standing Ending
 swept_turn th m st g rest w =
     if has_links (pass_chain w) then Ok (with_sides_of st g rest (passed_sides w st.budget)) else open_turn_trying th m st g rest
-
--- both sides after a lemma pass
-abbrev pub plain_swept_sides : SweptSides → Swept × Swept
-plain_swept_sides s = (plain_swept s.left, plain_swept s.right)
 
 -- a goal in normal form with the links to its sides, by the sides in normal form under its conditions
 abbrev pub GivesNormal : (conds : List Pair) → Result Sides PlainStop → (left : ℕ) → Result (Goal × Chain Tree) Stop → Type 0

@@ -3,6 +3,7 @@ use Rattle.std.specs.Prelude.{◌≡◌, ℕ, List, map}
 use Rattle.circ_plain_search.specs.Search.{Limits, Standing, no_links, start}
 use Rattle.circ_conditional_search.specs.ConditionalSearch.{CanAllBeSearched}
 use Rattle.circ_conditional_search.specs.Search.{Manner}
+use Rattle.circ_attempt.specs.Search.{Conduct}
 use Rattle.circ_theory.specs.Theory.{Theory}
 use Rattle.circ_theory.specs.declared.parts.Goal.{Goal}
 use Rattle.circ_proof.specs.Plain.{plain_chain}
@@ -18,6 +19,10 @@ plain_limits l = record { steps = l.steps; derives = l.derives }
 -- a search within the limits, in which hidden goals are split or not
 abbrev pub manner_with : TheLimits → Manner
 manner_with l = record { limits = plain_limits l; split = l.split }
+
+-- the same, and whether hypotheses are rules
+abbrev pub conduct_with : TheLimits → Conduct
+conduct_with l = record { manner = manner_with l; rewrite = l.rewrite }
 
 -- how a search goes
 abbrev pub manner_of : Search → Manner

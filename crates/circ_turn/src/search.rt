@@ -22,7 +22,7 @@ use circ_special::Gamma;
 use circ_theory::Theory;
 use std::alloc::Global;
 
-/// The budgets of a search, and whether hidden goals are split.
+/// The budgets of a search, whether hidden goals are split, and whether hypotheses are rules.
 #[derive(Clone, Copy)]
 pub struct Limits {
     /// The most rewrite steps.
@@ -31,6 +31,9 @@ pub struct Limits {
     pub derives: u64,
     /// Whether a hidden goal is split on an open term, by Cases, before it is derived.
     pub split: bool,
+    /// Whether lemma passes go by lemmas in order, and attempts are made with the block's own
+    /// hypotheses as rules.
+    pub rewrite: bool,
 }
 
 /// What a search goes by.
@@ -42,7 +45,7 @@ pub struct Search<'a> {
     pub theory: &'a Theory,
     /// The special set.
     pub gamma: &'a Gamma,
-    /// The budgets, and whether hidden goals are split.
+    /// The budgets, and how the search goes.
     pub limits: Limits,
 }
 

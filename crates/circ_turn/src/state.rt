@@ -109,8 +109,8 @@ impl<'a> State<'a> {
         }
     }
 
-    // The goal in hand is this one now, to whose sides these links have led.
-    pub(crate) fn set_hand(
+    /// The goal in hand is this one now, to whose sides these links have led.
+    pub fn set_hand(
         &mut self,
         alloc: Global,
         goal: &Goal,
@@ -140,8 +140,8 @@ impl<'a> State<'a> {
         self.budget = budget;
     }
 
-    // The chain, which has no links afterwards.
-    pub(crate) fn take_chain(&mut self, alloc: Global) -> Chain<Term>
+    /// The chain, which has no links afterwards.
+    pub fn take_chain(&mut self, alloc: Global) -> Chain<Term>
         ensures taken { plain_chain result ≡ plain_chain self.old.chain }
         ensures left { standing self.new ≡ unlinked (standing self.old) }
         ensures kept { KeepsRest self.old self.new }
@@ -172,8 +172,8 @@ pub(crate) fn put_first(queue: &mut VecDeque<Goal>, goals: Vec<Goal>) -> Result<
     Ok(())
 }
 
-// Puts the links of a chain behind those of another.
-fn append(chain: &mut Chain<Term>, more: Chain<Term>) -> Result<(), AllocError>
+/// Puts the links of a chain behind those of another.
+pub fn append(chain: &mut Chain<Term>, more: Chain<Term>) -> Result<(), AllocError>
     ensures { OnOk result (plain_chain chain.new
         ≡ chained (plain_chain chain.old) (plain_chain more)) }
 {

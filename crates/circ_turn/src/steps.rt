@@ -55,8 +55,8 @@ impl Search<'_> {
         }
     }
 
-    // How a search ends that a part of it stops.
-    pub(crate) fn end(&self, state: &State<'_>, stop: Stop) -> End
+    /// How a search ends that a part of it stops.
+    pub fn end(&self, state: &State<'_>, stop: Stop) -> End
         requires finished { length state.now.finished.items ≤ 100000 }
         requires taken { state.now.taken ≤ 100000 }
         ensures { result ≡ end_by (plain_limits self.now.limits) (standing state.now) stop }
@@ -116,8 +116,8 @@ impl Search<'_> {
         Ok(())
     }
 
-    // The goal in hand is reduced by the reason.
-    pub(crate) fn goal_reduced(&self, state: &mut State<'_>, why: Why<Term>) -> Result<(), End>
+    /// The goal in hand is reduced by the reason.
+    pub fn goal_reduced(&self, state: &mut State<'_>, why: Why<Term>) -> Result<(), End>
         requires taken { state.old.taken ≤ 100000 }
         ensures { GoesTo (goal_reduced self.now.theory.now (plain_limits self.now.limits)
             (standing state.old) (drop 1 state.old.queue.items) (plain_why why))
@@ -272,9 +272,9 @@ impl Search<'_> {
         Ok(())
     }
 
-    // After a block's last goal a Done step is made, and the next block begins. False where there
-    // is none.
-    pub(crate) fn done_turn(&self, state: &mut State<'_>) -> Result<bool, End>
+    /// After a block's last goal a Done step is made, and the next block begins. False where there
+    /// is none.
+    pub fn done_turn(&self, state: &mut State<'_>) -> Result<bool, End>
         requires next { (y : Standing) → done_turn self.now.theory.now
             (plain_limits self.now.limits) (standing state.old) ≡ Ok y → IsSmallTrying y }
         ensures { GoesOrDone (done_turn self.now.theory.now (plain_limits self.now.limits)

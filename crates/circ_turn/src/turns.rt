@@ -18,14 +18,15 @@ ghost use Rattle.circ_join.specs.Trying.{Works};
 ghost use Rattle.circ_join.specs.Uses.{plain_uses};
 ghost use Rattle.circ_proof.specs.Plain.{plain_chain};
 ghost use Rattle.circ_turn.specs.Standing.{standing, manner_of, with_budget};
-ghost use Rattle.circ_turn.specs.Ending.{GoesTo, GivesNormal, plain_swept_sides, swept_turn};
-ghost use Rattle.circ_turn.specs.Ending.{reducing};
+ghost use Rattle.circ_own_rules.specs.Sides.{plain_swept_sides};
+ghost use Rattle.circ_turn.specs.Ending.{GoesTo, GivesNormal, swept_turn, reducing};
 
 use crate::end::End;
 use crate::search::Search;
 use crate::state::State;
 use circ_block::BlockRules;
-use circ_join::{HypothesisUse, Joining, Lemmas, Passing, Stop, Swept, put_all, use_links};
+use circ_join::{HypothesisUse, Joining, Lemmas, Passing, Stop, put_all, use_links};
+use circ_own_rules::SweptSides;
 use circ_proof::{Chain, Why};
 use circ_rewrite::RewriteFault;
 use circ_split::{Sides, Splitting, normal_sides};
@@ -33,13 +34,6 @@ use circ_term::Term;
 use circ_theory::Goal;
 use circ_tries::Reducer;
 use std::alloc::AllocError;
-
-// Both sides of a goal after a lemma pass.
-#[derive(Drop)]
-struct SweptSides {
-    left: Swept,
-    right: Swept,
-}
 
 impl Search<'_> {
     // One goal: both sides are normalised under its conditions, and then it is looked at.
@@ -71,9 +65,9 @@ impl Search<'_> {
         }
     }
 
-    // A goal in normal form under its conditions, and the links to its sides. The rules have its
-    // conditions then.
-    fn normal_goal(
+    /// A goal in normal form under its conditions, and the links to its sides. The rules have its
+    /// conditions then.
+    pub fn normal_goal(
         &self,
         rules: &mut BlockRules<'_>,
         goal: &Goal,
@@ -293,8 +287,13 @@ impl Search<'_> {
         Ok(())
     }
 
-    // The goal in hand goes on from these sides.
-    fn go_on(&self, state: &mut State<'_>, goal: &Goal, sides: SweptSides) -> Result<(), AllocError>
+    /// The goal in hand goes on from these sides.
+    pub fn go_on(
+        &self,
+        state: &mut State<'_>,
+        goal: &Goal,
+        sides: SweptSides,
+    ) -> Result<(), AllocError>
         requires some { 0 < length state.old.queue.items }
         ensures { OnOk result (standing state.new
             ≡ with_sides_of (standing state.old) goal.now (drop 1 state.old.queue.items)
@@ -312,8 +311,8 @@ impl Search<'_> {
         state.set_hand(self.alloc, &hand, chain, budget)
     }
 
-    // A goal on which neither Join nor a lemma pass does anything.
-    fn open_turn(
+    /// A goal on which neither Join nor a lemma pass does anything.
+    pub fn open_turn(
         &self,
         rules: &mut BlockRules<'_>,
         state: &mut State<'_>,
@@ -372,8 +371,8 @@ impl Search<'_> {
     }
 }
 
-// Whether a lemma pass has used a lemma on one of the sides.
-fn has_uses(sides: &SweptSides) -> bool
+/// Whether a pass has used a hypothesis on one of the sides.
+pub fn has_uses(sides: &SweptSides) -> bool
     ensures { result ≡ has_links (pass_chain (plain_swept_sides sides.now)) }
 {
     if !sides.left.uses.as_slice().is_empty() {

@@ -20,9 +20,11 @@ returns-in_err-given c = rw c.from_residual-in_err-given.ensures (none_given _ (
 
 pub returns : goal.returns
 returns c =
-    finds _ _ _ _ (record { steps = c.in_ok-steps.steps; derives = c.in_ok-derives.derives; split = c.is_set-split.result }) c.in_ok-name.name.now (map (λ x. x.now) c.in_ok-given.given.now)
+    finds _ _ _ _ _
+    (record { steps = c.in_ok-steps.steps; derives = c.in_ok-derives.derives; split = c.is_set-split.result; rewrite = c.is_set-rewrite.result }) c.in_ok-name.name.now (map (λ x. x.now) c.in_ok-given.given.now)
     (c.get_str.ensures ∙ first_value-rows (found_of c.args.matches.now) (codes "steps")) c.in_ok-steps.ensures
     (c.get_str-2.ensures ∙ first_value-rows (found_of c.args.matches.now) (codes "derives")) c.in_ok-derives.ensures
     (c.get_str-3.ensures ∙ first_value-rows (found_of c.args.matches.now) (codes "split")) c.is_set-split.ensures
+    (c.get_str-4.ensures ∙ first_value-rows (found_of c.args.matches.now) (codes "rewrite")) c.is_set-rewrite.ensures
     (c.in_ok-name.ensures ∙ first_value-rows (found_of c.args.matches.now) (codes "command"))
     (c.in_ok-given.ensures ∙ raw_values-rows (found_of c.args.matches.now) (codes "words"))

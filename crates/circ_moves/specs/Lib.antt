@@ -1,0 +1,4 @@
+pub mod Plain
+pub mod Parts
+pub mod Making
+pub mod Joining

@@ -1,0 +1,5 @@
+pub mod Standing
+pub mod FirstRule
+pub mod Sweeps
+pub mod Uses
+pub mod Matches

@@ -1,0 +1,5 @@
+pub mod Code
+pub mod Sides
+pub mod Standing
+pub mod Rules
+pub mod Using

@@ -1,0 +1,4 @@
+pub mod Stood
+pub mod Passed
+pub mod Going
+pub mod PassRules
