@@ -33,8 +33,8 @@ pub fn a_hypothesis_that_is_read_back()
     ensures { step_counts (in_words true 6 1 ((vanishing_turned ∷ []) ∷ [])) ≡ Some (3, 1) }
 {}
 
-/// The second goal closes in the second round, before it is derived.
-pub fn closed_in_a_later_round()
+/// The second goal Joins up to content in the first round, before it is derived.
+pub fn closed_before_it_is_derived()
     ensures { step_counts (in_words true 14 1 ((spread ∷ spread_wide ∷ []) ∷ [])) ≡ Some (4, 1) }
 {}
 
