@@ -87,7 +87,7 @@ impl<'a> Asked<'a> {
     }
 
     /// Appends the words of a command that takes those of this one, a `prove`: with the same
-    /// options but `--rewrite`, which it makes no use of, and without the name of the proof.
+    /// options, and without the name of the proof.
     pub(crate) fn push_as(&self, out: &mut String, command: &str) -> Result<(), AllocError> {
         let mut count: u64 = 0;
         let mut is_value = false;
@@ -100,7 +100,7 @@ impl<'a> Asked<'a> {
             } else if !all_plain && is_option(word) {
                 all_plain = word == "--";
                 is_value = takes_value(word);
-                push_option(out, word)?;
+                push_word(out, word)?;
             } else {
                 push_one_as(out, word, count, command)?;
                 count = count.saturating_add(1);
@@ -146,15 +146,6 @@ fn push_one_as(out: &mut String, word: &str, count: u64, command: &str) -> Resul
         0 => push_word(out, command),
         1 | 2 => push_word(out, word),
         _ => Ok(()),
-    }
-}
-
-/// Appends an option of a search as a command takes it that makes no use of `--rewrite`.
-fn push_option(out: &mut String, word: &str) -> Result<(), AllocError> {
-    if word == "--rewrite" {
-        Ok(())
-    } else {
-        push_word(out, word)
     }
 }
 

@@ -85,11 +85,7 @@ pub fn search_calls(alloc: Global, asked: Asked<'_>, seen: Seen) -> Result<Strin
 
 /// Appends the call that shows the turns of the search of a `prove`.
 fn push_trace(out: &mut String, asked: Asked<'_>) -> Result<(), AllocError> {
-    out.push_str(if asked.rewrites() {
-        "circ: each turn of the search without --rewrite: circ"
-    } else {
-        "circ: each turn of the search: circ"
-    })?;
+    out.push_str("circ: each turn of the search: circ")?;
     asked.push_as(out, "trace")?;
     out.push('\n')
 }

@@ -4,7 +4,7 @@ use crate::drawing::rest_from;
 use crate::known::{Known, Wanted};
 use crate::marks::Mark;
 use crate::openings::{begins_statement, begins_work, says_of_conditions};
-use crate::parts::{Part, is, next};
+use crate::parts::{Part, is, is_same, next};
 use crate::prefixes::unread_behind;
 use crate::unreadable_hint::Source;
 use circ_lexer::Tokens;
@@ -33,11 +33,25 @@ pub(crate) fn unread_word<'a>(
     part: Part,
 ) -> Result<Mark, AllocError> {
     let from = terms_begin(tokens, part);
-    let seen = Names::before(alloc, source, tokens, part)?.seen_mark(tokens, part, from);
-    match seen {
+    match seen_mark(alloc, source, tokens, part, from)? {
         Some(mark) => Ok(mark),
         None => unread_part(alloc, source, tokens, part, from),
     }
+}
+
+/// The mark of a word that nothing before the part declares, or else of a parenthesis without its
+/// other one.
+fn seen_mark<'a>(
+    alloc: Global,
+    source: &Source<'a>,
+    tokens: &Tokens<'a>,
+    part: Part,
+    from: usize,
+) -> Result<Option<Mark>, AllocError> {
+    let names = Names::before(alloc, source, tokens, part)?;
+    let mark = names.seen_mark(tokens, part, from);
+    drop(names);
+    Ok(mark)
 }
 
 /// The mark behind the longest part that reads, or of the whole.
@@ -122,10 +136,6 @@ fn is_of_any_term(word: &[u8]) -> bool {
 /// Whether a token may stand between conditions.
 fn is_of_conditions(word: &[u8]) -> bool {
     is_same(word, b"if") || is_same(word, b"/\\")
-}
-
-fn is_same(word: &[u8], text: &[u8]) -> bool {
-    word == text
 }
 
 fn is_one_of(word: &[u8], signs: &[u8]) -> bool {

@@ -18,7 +18,7 @@ use Rattle.circ_top.specs.Causes.{AtFile, HasLongProof, IsPastLimit, IsReadFault
 use Rattle.circ_reports.specs.Check.{report_text, refused, accepted}
 use Rattle.circ_top.specs.Check.{Accepts, Rejects, FilesRead}
 use Rattle.circ_top.specs.Command.{Command, Check, Prove, Show, Contexts, Reduce, Same, Differ, Trace, Regex, Upgrade, Expand, Library, Generate, Asks, IsNotStored, stored_name}
-use Rattle.circ_search.specs.Plain.{manner_with, conduct_with}
+use Rattle.circ_search.specs.Plain.{conduct_with}
 use Rattle.circ_top.specs.Scripted.{to_prove, to_differ}
 use Rattle.circ_top.specs.Prove.{IsSearched, StoresProof}
 use Rattle.circ_top.specs.Delivery.{Prints, Delivers, whole, write_failed, memory_wanted, text_wanted}
@@ -150,7 +150,7 @@ module _ (before : ShelfState) where
   work_end (Same first second) s text stored a = (compared_end a.0.compared.word s a.0.compared.status_is).0
   work_end (Differ limits theory script) s text stored a =
       (difference_end a.done.th limits.steps limits.derives a.done.sc.blocks (ending s text stored) a.done.ends).0
-  work_end (Trace limits theory script) s text stored a = (trace_end a.done.th (manner_with limits) a.done.sc.blocks (ending s text stored) a.done.ends).0
+  work_end (Trace limits theory script) s text stored a = (trace_end a.done.th (conduct_with limits) a.done.sc.blocks (ending s text stored) a.done.ends).0
   work_end (Regex limits left right proof) s text stored a = search_end LANG (conduct_with limits) proof (equality_goals a.e a.f) s text stored a.ends
   work_end (Upgrade theory proof new) s text stored a = ok_end s a.0
   work_end (Expand theory proof goal derivatives) s text stored a = ok_end s a.0
@@ -219,7 +219,7 @@ module _ (before : ShelfState) where
   work_name (Differ limits theory script) s text stored x a e =
       nothing_stored stored x (difference_end a.done.th limits.steps limits.derives a.done.sc.blocks (ending s text stored) a.done.ends).1 e
   work_name (Trace limits theory script) s text stored x a e =
-      nothing_stored stored x (trace_end a.done.th (manner_with limits) a.done.sc.blocks (ending s text stored) a.done.ends).1 e
+      nothing_stored stored x (trace_end a.done.th (conduct_with limits) a.done.sc.blocks (ending s text stored) a.done.ends).1 e
   work_name (Regex limits left right proof) s text stored x a e =
       let P : Option Stored → Type 0 = λ y. SearchEnds LANG (conduct_with limits) proof (equality_goals a.e a.f) (ending s text y) in
       ap Some (sym (search_name LANG (conduct_with limits) proof (equality_goals a.e a.f) s text x (subst P e a.ends)))

@@ -26,7 +26,7 @@ use Rattle.circ_top.specs.Outcome.{Outcome, usage, command}
 use Rattle.circ_files.specs.ProofFile.{ProofRefusal}
 use Rattle.circ_reports.specs.Reduce.{reduced, results_text, not_reduced, all_reduced}
 use Rattle.circ_reports.specs.Reduce as reduce
-use Rattle.circ_search.specs.Plain.{manner_with, conduct_with}
+use Rattle.circ_search.specs.Plain.{conduct_with}
 use Rattle.circ_auto.specs.Text.{ReadsAsAutomaton}
 use Rattle.circ_reports.specs.Same.{AutomatonRefusal, SecondRefusal, ReadsOver, compared_status, compared_text, no_first, no_second, compared}
 use Rattle.circ_reports.proofs.SameDecides.{AutomataDecided, first_decides, second_decides, compared_decides}
@@ -178,7 +178,7 @@ module _ (reads : (bytes : List ℕ) → ReadOrRefused bytes) (proofs : ProofsDe
   no_trace : (limits : Limits) (theory script : List ℕ) → Asks words (Trace limits theory script) → HoldsFilesOf held (Trace limits theory script) → ⊥
   no_trace limits theory script i h = file_decides held 1 theory TheoryRefusal ReadsAs h.0 reads
       (λ th rt. file_decides held 2 script (ScriptRefusal th job.Prove) (ReadsAsScript th job.Prove) h.1 (scripts th job.Prove)
-      (λ q rq. some_trace th (manner_with limits) q.blocks
+      (λ q rq. some_trace th (conduct_with limits) q.blocks
       (λ e x. none_is e.status e.text e.stored
       (command (Trace limits theory script) e.status e.text e.stored i (goals_done e.status e.text e.stored th q rt rq x))))
       (λ s x. let text : List ℕ = refusal_text (Trace limits theory script) s in none_is s text None

@@ -1,7 +1,7 @@
 -- What `trace` does: its outcome.
 use Rattle.std.specs.Prelude.{ℕ, List, Option}
 use Rattle.circ_outer.specs.Shelf.{ShelfState}
-use Rattle.circ_search.specs.Plain.{manner_with}
+use Rattle.circ_search.specs.Plain.{conduct_with}
 use Rattle.circ_conditional_search.specs.ConditionalSearch.{CanAllBeSearched}
 use Rattle.circ_trace.specs.Tracing.{TraceEnds}
 use Rattle.circ_files.specs.Files.{Held}
@@ -13,7 +13,7 @@ use Rattle.circ_turn.specs.declared.search.Limits.{Limits}
 
 -- how the trace of the search for a proof of the goals ends, within limits
 abbrev pub TraceSought : (limits : Limits) → GoalsEnd
-TraceSought limits th blocks e = TraceEnds th (manner_with limits) blocks e
+TraceSought limits th blocks e = TraceEnds th (conduct_with limits) blocks e
 
 abbrev pub TraceOutcome : Held → Limits → (theory script : List ℕ) → Status → (text : List ℕ) → (stored : Option Stored) → Type 0
 TraceOutcome held limits theory script s text stored =

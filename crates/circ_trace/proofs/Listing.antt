@@ -8,7 +8,7 @@ use Rattle.circ_theory.specs.Theory.{Derivative}
 use Rattle.circ_theory.specs.declared.parts.Goal.{Goal}
 use Rattle.circ_proof.proofs.Derivatives.{StartsWith, derivative_at}
 use Rattle.circ_trace.specs.Descents.{derived_row}
-use Rattle.circ_trace.specs.TurnText.{hypothesis_text, further_hypothesis, shown_goal, hypothesis_lines}
+use Rattle.circ_trace.specs.TurnText.{hypothesis_text, shown_goal, hypothesis_lines}
 use Rattle.circ_trace.specs.declared.descent.Descent.{Descent}
 use Rattle.circ_trace.specs.declared.descent.Descent.TheVariants.{Derived}
 
@@ -22,12 +22,11 @@ one_line sig out new whole n m g gs rest e k a h =
     ∙ ap (λ x. out ++ ((hypothesis_text x ++ codes ": " ++ shown_goal sig g ++ codes "\n") ++ hypothesis_lines sig x rest)) k
     ∙ ap (λ x. out ++ hypothesis_lines sig n x) (sym e) ∙ h
 
--- one more of the hypotheses behind the first
-pub one_other : (out new whole : List ℕ) (n : ℕ) (ns rest : List ℕ) → ns ≡ n ∷ rest → new ≡ out ++ further_hypothesis n
-    → out ++ flat_map further_hypothesis ns ≡ whole → new ++ flat_map further_hypothesis rest ≡ whole
-one_other out new whole n ns rest e a h =
-    ap (λ x. x ++ flat_map further_hypothesis rest) a ∙ append_assoc out (further_hypothesis n) (flat_map further_hypothesis rest)
-    ∙ ap (λ x. out ++ flat_map further_hypothesis x) (sym e) ∙ h
+-- one more of those that are listed
+pub one_more : {A : Type 0} (f : A → List ℕ) (out new whole : List ℕ) (x : A) (xs rest : List A) → xs ≡ x ∷ rest → new ≡ out ++ f x
+    → out ++ flat_map f xs ≡ whole → new ++ flat_map f rest ≡ whole
+one_more f out new whole x xs rest e a h =
+    ap (λ y. y ++ flat_map f rest) a ∙ append_assoc out (f x) (flat_map f rest) ∙ ap (λ y. out ++ flat_map f y) (sym e) ∙ h
 
 module _ (ds : List Derivative) (n s i : ℕ) (h : i < length ds) (ps whole : List Descent) (so : ps ++ derived_row n s i (drop i ds) ≡ whole) where
   next : (b : Bool) (d : Derivative) → StartsWith ds i d → option_map_or (λ x. x.hole == s) (slice_get ds i) false ≡ b

@@ -7,7 +7,8 @@ use Rattle.circ_theory.specs.declared.parts.Goal.{Goal}
 use Rattle.circ_plain_search.specs.Search.{Standing, constants_of}
 use Rattle.circ_trace.specs.declared.descent.Descent.{Descent}
 use Rattle.circ_trace.specs.declared.descent.Descent.TheVariants.{Given, Derived, Case}
-use Rattle.circ_trace.specs.Account.{Account, Deed, Joins, Passes, Cases, Opens, Ends}
+use Rattle.circ_trace.specs.Account.{Account}
+use Rattle.circ_trace.specs.Deed.{Deed, Joins, Passes, Closes, Cases, Opens, Ends}
 
 -- the goal in hand is the first that waits
 abbrev pub first_descent : List Descent → Descent
@@ -43,9 +44,10 @@ case_row n (suc k) ds = case_row n k (Case n (suc k) ∷ ds)
 abbrev pub after_deed : Theory → List Descent → (n sort : ℕ) → Deed → List Descent
 after_deed th ds n s (Joins ns) = others ds
 after_deed th ds n s (Passes ns) = ds
-after_deed th ds n s (Cases u) = case_row n (length (constants_of th (sort_of u))) (others ds)
-after_deed th ds n s Opens = with_derived th n s (others ds)
-after_deed th ds n s Ends = ds
+after_deed th ds n s (Closes ns) = others ds
+after_deed th ds n s (Cases a u) = case_row n (length (constants_of th (sort_of u))) (others ds)
+after_deed th ds n s (Opens a) = with_derived th n s (others ds)
+after_deed th ds n s (Ends a) = ds
 
 -- after the turn of goal n
 abbrev pub after_account : Theory → List Descent → (n : ℕ) → Account → List Descent

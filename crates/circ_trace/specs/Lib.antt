@@ -1,3 +1,6 @@
+pub mod Used
+pub mod Deed
+pub mod RewritingDeed
 pub mod Account
 pub mod Descents
 pub mod Telling

@@ -1,5 +1,5 @@
 -- The lines that `trace` prints of a turn.
-use Rattle.std.specs.Prelude.{ℕ, ◌+◌, List, [], ◌∷◌, ◌++◌, length, flat_map, nat_lt, if◌then◌else◌, true, false, Option, Some, None, codes, decimal}
+use Rattle.std.specs.Prelude.{ℕ, ◌+◌, Bool, List, [], ◌∷◌, ◌++◌, length, flat_map, nat_lt, if◌then◌else◌, true, false, Option, Some, None, codes, decimal}
 use Rattle.std.specs.List.{slice_get}
 use Rattle.std.specs.Option.{option_map, option_map_or, option_or}
 use Rattle.circ_term.specs.Tree.{Tree, sort_of, size_of}
@@ -10,7 +10,8 @@ use Rattle.circ_theory.specs.declared.parts.Goal.{Goal}
 use Rattle.circ_mixfix.specs.Printing.{text_of_term, text_of_goal}
 use Rattle.circ_plain_search.specs.Joining.{first_open}
 use Rattle.circ_plain_search.specs.Search.{Standing}
-use Rattle.circ_trace.specs.Account.{Account, Deed, Joins, Passes, Cases, Opens, Ends}
+use Rattle.circ_trace.specs.Account.{Account}
+use Rattle.circ_trace.specs.Deed.{Deed, Joins, Passes, Closes, Cases, Opens, Ends}
 use Rattle.circ_trace.specs.Descents.{first_descent}
 use Rattle.circ_trace.specs.declared.descent.Descent.{Descent}
 use Rattle.circ_trace.specs.declared.descent.Descent.TheVariants.{Given, Derived, Case}
@@ -86,13 +87,19 @@ abbrev pub opening_line : Theory → Standing → (left right : Tree) → List �
 opening_line th st s t =
     if is_hidden th (sort_of s) then derived_line st else split_line th.signature (option_or (first_open th s) (first_open th t))
 
--- none where Join or the lemma pass ends the search
+-- an attempt was made that closed nothing
+abbrev pub attempt_line : (attempted : Bool) → List ℕ
+attempt_line true = codes "attempt ends\n"
+attempt_line false = []
+
+-- nothing but the attempt's line where the search ends
 abbrev pub deed_line : Theory → Standing → (left right : Tree) → Deed → List ℕ
 deed_line th st s t (Joins ns) = uses_line (codes "equal") (codes "joins by ") ns
 deed_line th st s t (Passes ns) = uses_line (codes "lemma pass") (codes "lemma pass by ") ns
-deed_line th st s t (Cases u) = cases_line th.signature u
-deed_line th st s t Opens = opening_line th st s t
-deed_line th st s t Ends = []
+deed_line th st s t (Closes ns) = uses_line (codes "closes") (codes "closes by ") ns
+deed_line th st s t (Cases a u) = attempt_line a ++ cases_line th.signature u
+deed_line th st s t (Opens a) = attempt_line a ++ opening_line th st s t
+deed_line th st s t (Ends a) = attempt_line a
 
 -- nothing where normalising ends the search
 abbrev pub account_text : Theory → Standing → Option Account → List ℕ

@@ -1,6 +1,6 @@
 //! The account of the turn that comes next.
-ghost use Rattle.std.specs.Prelude.{◌≡◌, ◌≢◌, ◌<◌, ◌^◌, ◌++◌, List, length, [], Some, None};
-ghost use Rattle.std.specs.Prelude.{IfOk, OnOk};
+ghost use Rattle.std.specs.Prelude.{◌≡◌, ◌≢◌, ◌<◌, ◌^◌, ◌++◌, List, length, Some, None};
+ghost use Rattle.std.specs.Prelude.{false, IfOk, OnOk};
 ghost use Rattle.std.specs.Option.{option_map};
 ghost use Rattle.circ_theory.specs.declared.parts.Goal.{Goal as TheGoal};
 ghost use Rattle.circ_rewrite.specs.declared.fault.RewriteFault.TheVariants.{Memory as NoMemory};
@@ -10,17 +10,23 @@ ghost use Rattle.circ_join.specs.declared.stop.Stop.TheVariants.{Memory};
 ghost use Rattle.circ_plain_search.specs.BlockRules.{block_rules, hidden_lemmas};
 ghost use Rattle.circ_conditional_search.specs.Coming.{IsSmallTrying};
 ghost use Rattle.circ_conditional_search.specs.Search.{normal_sides_trying};
+ghost use Rattle.circ_attempt.specs.Search.{going};
 ghost use Rattle.circ_turn.specs.Ending.{reducing};
-ghost use Rattle.circ_turn.specs.Standing.{standing};
-ghost use Rattle.circ_trace.specs.Account.{account, account_of, account_on, numbers_of};
-ghost use Rattle.circ_trace.specs.Account.{deed_on, join_deed, passes_by, with_cases};
-ghost use Rattle.circ_trace.specs.Account.{Ends, Opens};
-ghost use Rattle.circ_trace.specs.Account.{plain_account_if, plain_deed};
+ghost use Rattle.circ_turn.specs.Standing.{standing, conduct_with};
+ghost use Rattle.circ_trace.specs.Account.{account, account_of, account_on, deed_on};
+ghost use Rattle.circ_trace.specs.Account.{deed_trying, join_deed_trying, with_cases};
+ghost use Rattle.circ_trace.specs.Account.{plain_account_if};
+ghost use Rattle.circ_trace.specs.Deed.{Ends, Opens, passes_or, plain_deed};
+ghost use Rattle.circ_trace.specs.Telling.{RulesAreRead};
+ghost use Rattle.circ_trace.specs.Used.{numbers_of};
 
 use crate::account::{Account, Deed};
+use crate::rewriting_deeds::deed_rewriting;
+use crate::used::push_numbers;
 use circ_block::BlockRules;
 use circ_join::{HypothesisUse, Joining, Lemmas, Passing, Stop};
 use circ_rewrite::RewriteFault;
+use circ_rewriting_turn::{PassRules, Passed};
 use circ_split::{Sides, case_term, normal_sides};
 use circ_theory::Goal;
 use circ_tries::Reducer;
@@ -32,18 +38,21 @@ use std::alloc::{AllocError, Global};
 pub(crate) fn account(
     search: &Search<'_>,
     rules: &mut BlockRules<'_>,
+    passes: &PassRules,
+    passed: &Passed,
     state: &State<'_>,
 ) -> Result<Option<Account>, AllocError>
     requires rules { IsRulesOf search.now.theory.now state.now.hyps.earlier rules.old }
+    requires passes { RulesAreRead search.now (standing state.now) passes.now }
     requires small { IsSmallTrying (standing state.now) }
     ensures exact { IfOk result (λ o. plain_account_if o
-        ≡ account search.now.theory.now search.now.gamma.now search.now.limits.split
-        (standing state.now)) }
+        ≡ account search.now.theory.now search.now.gamma.now (conduct_with search.now.limits)
+        (going (standing state.now) passed.now)) }
     ensures rules { IsRulesOf search.now.theory.now state.now.hyps.earlier rules.new }
 {
     match state.queue.front() {
         None => Ok(None),
-        Some(goal) => goal_account(search, rules, state, goal),
+        Some(goal) => goal_account(search, rules, passes, passed, state, goal),
     }
 }
 
@@ -51,13 +60,17 @@ pub(crate) fn account(
 fn goal_account(
     search: &Search<'_>,
     rules: &mut BlockRules<'_>,
+    passes: &PassRules,
+    passed: &Passed,
     state: &State<'_>,
     goal: &Goal,
 ) -> Result<Option<Account>, AllocError>
     requires rules { IsRulesOf search.now.theory.now state.now.hyps.earlier rules.old }
+    requires passes { RulesAreRead search.now (standing state.now) passes.now }
     requires few { length goal.now.conds < 2 ^ 32 }
     ensures exact { IfOk result (λ o. plain_account_if o ≡ account_of search.now.theory.now
-        search.now.gamma.now search.now.limits.split (standing state.now) goal.now.conds
+        search.now.gamma.now (conduct_with search.now.limits)
+        (going (standing state.now) passed.now) goal.now.conds
         (normal_sides_trying search.now.theory.now
         (block_rules search.now.theory.now state.now.hyps.earlier) goal.now.conds goal.now.left
         goal.now.right state.now.budget)) }
@@ -75,7 +88,7 @@ fn goal_account(
         Err(stop) => none_unless_memory(&stop),
         Ok(sides) => {
             let goal = with_sides(search.alloc, goal, sides)?;
-            normal_account(search, rules, state, goal, budget)
+            normal_account(search, rules, passes, passed, state, goal, budget)
         }
     }
 }
@@ -98,18 +111,21 @@ fn with_sides(alloc: Global, goal: &Goal, sides: Sides) -> Result<Goal, AllocErr
 fn normal_account(
     search: &Search<'_>,
     rules: &mut BlockRules<'_>,
+    passes: &PassRules,
+    passed: &Passed,
     state: &State<'_>,
     goal: Goal,
     budget: u64,
 ) -> Result<Option<Account>, AllocError>
     requires rules { IsRulesOf search.now.theory.now state.now.hyps.earlier rules.old }
+    requires passes { RulesAreRead search.now (standing state.now) passes.now }
     requires conds { rules.old.goals.conds ≡ goal.conds }
     ensures exact { IfOk result (λ o. plain_account_if o
-        ≡ Some (account_on search.now.theory.now search.now.gamma.now search.now.limits.split
-        (standing state.now) goal budget)) }
+        ≡ Some (account_on search.now.theory.now search.now.gamma.now
+        (conduct_with search.now.limits) (going (standing state.now) passed.now) goal budget)) }
     ensures rules { IsRulesOf search.now.theory.now state.now.hyps.earlier rules.new }
 {
-    let deed = deed(search, rules, state, &goal, budget)?;
+    let deed = deed(search, rules, passes, passed, state, &goal, budget)?;
     let deed = with_cases(search, &goal, deed)?;
     Ok(Some(Account {
         left: goal.left,
@@ -126,25 +142,26 @@ fn with_cases(search: &Search<'_>, goal: &Goal, deed: Deed) -> Result<Deed, Allo
     match deed {
         Deed::Joins { hypotheses } => Ok(Deed::Joins { hypotheses }),
         Deed::Passes { hypotheses } => Ok(Deed::Passes { hypotheses }),
-        Deed::Cases { term } => Ok(Deed::Cases { term }),
-        Deed::Opens => opened(search, goal),
-        Deed::Ends => Ok(Deed::Ends),
+        Deed::Closes { hypotheses } => Ok(Deed::Closes { hypotheses }),
+        Deed::Cases { attempted, term } => Ok(Deed::Cases { attempted, term }),
+        Deed::Opens { attempted } => opened(search, goal, attempted),
+        Deed::Ends { attempted } => Ok(Deed::Ends { attempted }),
     }
 }
 
 // The same of a goal that is open.
-fn opened(search: &Search<'_>, goal: &Goal) -> Result<Deed, AllocError>
+fn opened(search: &Search<'_>, goal: &Goal, attempted: bool) -> Result<Deed, AllocError>
     ensures { IfOk result (λ d. plain_deed d ≡ with_cases search.now.theory.now
-        search.now.limits.split goal.now Opens) }
+        search.now.limits.split goal.now (Opens attempted)) }
 {
     if !search.theory.is_hidden(goal.left.sort()) {
-        return Ok(Deed::Opens);
+        return Ok(Deed::Opens { attempted });
     }
     match case_term(search.theory, search.limits.split, goal) {
-        None => Ok(Deed::Opens),
+        None => Ok(Deed::Opens { attempted }),
         Some(term) => {
             let term = term.share()?;
-            Ok(Deed::Cases { term })
+            Ok(Deed::Cases { attempted, term })
         }
     }
 }
@@ -164,13 +181,38 @@ fn none_unless_memory(stop: &Stop) -> Result<Option<Account>, AllocError>
 fn deed(
     search: &Search<'_>,
     rules: &mut BlockRules<'_>,
+    passes: &PassRules,
+    passed: &Passed,
+    state: &State<'_>,
+    goal: &Goal,
+    budget: u64,
+) -> Result<Deed, AllocError>
+    requires rules { IsRulesOf search.now.theory.now state.now.hyps.earlier rules.old }
+    requires passes { RulesAreRead search.now (standing state.now) passes.now }
+    requires conds { rules.old.goals.conds ≡ goal.now.conds }
+    ensures exact { IfOk result (λ d. plain_deed d ≡ deed_on search.now.theory.now
+        search.now.gamma.now search.now.limits.rewrite (going (standing state.now) passed.now)
+        goal.now budget) }
+    ensures rules { IsRulesOf search.now.theory.now state.now.hyps.earlier rules.new }
+{
+    if search.limits.rewrite {
+        deed_rewriting(search, rules, passes, passed, state, goal, budget)
+    } else {
+        deed_trying(search, rules, state, goal, budget)
+    }
+}
+
+// The same where no hypothesis is a rule.
+fn deed_trying(
+    search: &Search<'_>,
+    rules: &mut BlockRules<'_>,
     state: &State<'_>,
     goal: &Goal,
     budget: u64,
 ) -> Result<Deed, AllocError>
     requires rules { IsRulesOf search.now.theory.now state.now.hyps.earlier rules.old }
     requires conds { rules.old.goals.conds ≡ goal.now.conds }
-    ensures exact { IfOk result (λ d. plain_deed d ≡ deed_on search.now.theory.now
+    ensures exact { IfOk result (λ d. plain_deed d ≡ deed_trying search.now.theory.now
         search.now.gamma.now (standing state.now) goal.now budget) }
     ensures rules { IsRulesOf search.now.theory.now state.now.hyps.earlier rules.new }
 {
@@ -182,19 +224,19 @@ fn deed(
     let mut budget = budget;
     let reducer = &mut rules.goals.reducer;
     match joining.join(reducer, &goal.left, &goal.right, &mut budget) {
-        Err(fault) => ends_unless_memory(&fault),
+        Err(fault) => ends_unless_memory(&fault, false),
         Ok(joined) => joined_deed(search, reducer, &rules.lemmas, goal, joined, budget),
     }
 }
 
-// The search ends unless memory ran out.
-fn ends_unless_memory(fault: &RewriteFault) -> Result<Deed, AllocError>
-    ensures ends { IfOk result (λ d. plain_deed d ≡ Ends) }
+/// The search ends unless memory ran out. It is told whether this was in an attempt.
+pub(crate) fn ends_unless_memory(fault: &RewriteFault, attempted: bool) -> Result<Deed, AllocError>
+    ensures ends { IfOk result (λ d. plain_deed d ≡ Ends attempted) }
     ensures stopped { OnOk result (fault.now ≢ NoMemory) }
 {
     match fault {
         RewriteFault::Memory => Err(AllocError),
-        _ => Ok(Deed::Ends),
+        _ => Ok(Deed::Ends { attempted }),
     }
 }
 
@@ -210,8 +252,8 @@ fn joined_deed(
     ensures exact { (E : List TheGoal)
         → reducer.old ≡ reducing search.now.theory.now E goal.now.conds
         → lemmas.now ≡ hidden_lemmas search.now.theory.now 0 E
-        → IfOk result (λ d. plain_deed d ≡ join_deed search.now.theory.now search.now.gamma.now E
-        goal.now (option_map (λ v. plain_uses v.items) joined) budget) }
+        → IfOk result (λ d. plain_deed d ≡ join_deed_trying search.now.theory.now
+        search.now.gamma.now E goal.now (option_map (λ v. plain_uses v.items) joined) budget) }
     ensures same { reducer.new ≡ reducer.old }
 {
     match joined {
@@ -235,8 +277,8 @@ fn pass_deed(
     ensures exact { (E : List TheGoal)
         → reducer.old ≡ reducing search.now.theory.now E goal.now.conds
         → lemmas.now ≡ hidden_lemmas search.now.theory.now 0 E
-        → IfOk result (λ d. plain_deed d ≡ join_deed search.now.theory.now search.now.gamma.now E
-        goal.now None budget) }
+        → IfOk result (λ d. plain_deed d ≡ join_deed_trying search.now.theory.now
+        search.now.gamma.now E goal.now None budget) }
     ensures same { reducer.new ≡ reducer.old }
 {
     let passing = Passing {
@@ -246,9 +288,9 @@ fn pass_deed(
     };
     let mut budget = budget;
     match passing.pass(reducer, &goal.left, &mut budget) {
-        Err(fault) => ends_unless_memory(&fault),
+        Err(fault) => ends_unless_memory(&fault, false),
         Ok(left) => match passing.pass(reducer, &goal.right, &mut budget) {
-            Err(fault) => ends_unless_memory(&fault),
+            Err(fault) => ends_unless_memory(&fault, false),
             Ok(right) => swept_deed(search.alloc, left.uses.as_slice(), right.uses.as_slice()),
         },
     }
@@ -260,25 +302,14 @@ fn swept_deed(
     left: &[HypothesisUse],
     right: &[HypothesisUse],
 ) -> Result<Deed, AllocError>
-    ensures { IfOk result (λ d. plain_deed d ≡ passes_by (numbers_of (plain_uses left.now)
-        ++ numbers_of (plain_uses right.now))) }
+    ensures { IfOk result (λ d. plain_deed d ≡ passes_or (numbers_of (plain_uses left.now)
+        ++ numbers_of (plain_uses right.now)) (Opens false)) }
 {
     let mut hypotheses = Vec::new(alloc);
     push_numbers(&mut hypotheses, left)?;
     push_numbers(&mut hypotheses, right)?;
     if hypotheses.is_empty() {
-        return Ok(Deed::Opens);
+        return Ok(Deed::Opens { attempted: false });
     }
     Ok(Deed::Passes { hypotheses })
-}
-
-// Appends the numbers of the hypotheses that are used.
-fn push_numbers(numbers: &mut Vec<u32>, uses: &[HypothesisUse]) -> Result<(), AllocError>
-    ensures { OnOk result (numbers.new.items
-        ≡ numbers.old.items ++ numbers_of (plain_uses uses.now)) }
-{
-    for one in uses {
-        numbers.push(one.number)?;
-    }
-    Ok(())
 }

@@ -77,16 +77,20 @@ fn follow_account(
 {
     match &account.deed {
         Deed::Passes { .. } => Ok(()),
-        Deed::Ends => Ok(()),
+        Deed::Ends { .. } => Ok(()),
         Deed::Joins { .. } => {
             waiting.pop_front();
             Ok(())
         }
-        Deed::Cases { term } => {
+        Deed::Closes { .. } => {
+            waiting.pop_front();
+            Ok(())
+        }
+        Deed::Cases { term, .. } => {
             waiting.pop_front();
             put_cases(theory, waiting, goal, term.sort())
         }
-        Deed::Opens => {
+        Deed::Opens { .. } => {
             waiting.pop_front();
             push_derived(theory, waiting, goal, account.left.sort())
         }

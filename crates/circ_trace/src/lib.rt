@@ -10,9 +10,11 @@ mod descent;
 mod descents;
 pub mod laws;
 mod lines;
+mod rewriting_deeds;
 mod tracing;
 mod turn_lines;
 mod turns;
+mod used;
 
 pub use account::{Account, Deed};
 pub use descent::Descent;

@@ -7,14 +7,14 @@ ghost use Rattle.circ_plain_search.specs.Numbering.{Proved};
 ghost use Rattle.circ_conditional_search.specs.ConditionalSearch.{CanAllBeSearched};
 ghost use Rattle.circ_plain_search.specs.Search.{start};
 ghost use Rattle.circ_proof.specs.Proof.{Proof as PlainProof, ProofFor};
-ghost use Rattle.circ_turn.specs.Standing.{standing, manner_with, plain_limits, IsStart};
+ghost use Rattle.circ_turn.specs.Standing.{standing, conduct_with, plain_limits, IsStart};
 ghost use Rattle.circ_search.specs.Plain.{plain_found};
 ghost use Rattle.circ_found.specs.Answering.{found_ending};
 ghost use Rattle.circ_files.specs.Ending.{plain_ending};
 ghost use Rattle.circ_trace.specs.Tracing.{after_lines, TraceEnds};
 
 use crate::turns::run_turns;
-use circ_conditional_search::laws::proved_is_accepted;
+use circ_attempt::laws::proved_is_accepted;
 use circ_contexts::special_contexts;
 use circ_files::Ending;
 use circ_found::found_ending;
@@ -34,7 +34,7 @@ pub fn trace<'a>(
     limits: &Limits,
 ) -> Result<Ending<'a>, AllocError>
     requires searchable { CanAllBeSearched theory.now (map (λ b. b.items) blocks.now) }
-    ensures { IfOk result (λ e. TraceEnds theory.now (manner_with limits.now)
+    ensures { IfOk result (λ e. TraceEnds theory.now (conduct_with limits.now)
         (map (λ b. b.items) blocks.now) (plain_ending e)) }
 {
     let (gamma, traces) = special_contexts(alloc, theory, limits.steps)?;
@@ -53,7 +53,7 @@ fn trace_with<'a>(
     requires searchable { CanAllBeSearched theory.now (map (λ b. b.items) blocks.now) }
     requires greatest { GreatestSpecialSet theory.now limits.now.steps gamma
         (plain_lists traces.items) }
-    ensures { IfOk result (λ e. TraceEnds theory.now (manner_with limits.now)
+    ensures { IfOk result (λ e. TraceEnds theory.now (conduct_with limits.now)
         (map (λ b. b.items) blocks.now) (plain_ending e)) }
 {
     let mut state = State::start(alloc, blocks, limits.steps)?;
@@ -74,7 +74,7 @@ fn trace_from<'a>(
         (plain_lists traces.items) }
     ensures { (blocks : List (List TheGoal))
         → standing state.old ≡ start (plain_limits limits.now) blocks
-        → IfOk result (λ e. TraceEnds theory.now (manner_with limits.now) blocks
+        → IfOk result (λ e. TraceEnds theory.now (conduct_with limits.now) blocks
         (plain_ending e)) }
 {
     theory.known();

@@ -3,7 +3,8 @@ ghost use Rattle.std.specs.Prelude.{◌≡◌, ◌≤◌, ◌++◌, length, OnOk
 ghost use Rattle.circ_turn.specs.Standing.{standing};
 ghost use Rattle.circ_trace.specs.Account.{plain_account, plain_account_if};
 ghost use Rattle.circ_trace.specs.TurnText.{block_text, descent_text, heading, goal_line};
-ghost use Rattle.circ_trace.specs.TurnText.{derived_line, opening_line, deed_line, account_text};
+ghost use Rattle.circ_trace.specs.TurnText.{derived_line, opening_line, attempt_line, deed_line};
+ghost use Rattle.circ_trace.specs.TurnText.{account_text};
 ghost use Rattle.circ_trace.specs.TurnText.{done_text, turn_text};
 ghost use Rattle.circ_conditional_search.specs.Coming.{IsSmallTrying};
 
@@ -159,10 +160,29 @@ fn put_deed(
         Deed::Passes { hypotheses } => {
             put_uses(b"lemma pass", b"lemma pass by ", hypotheses.as_slice(), out)
         }
-        Deed::Cases { term } => put_cases(alloc, theory, term, out),
-        Deed::Opens => put_opening(alloc, theory, state, account, out),
-        Deed::Ends => Ok(()),
+        Deed::Closes { hypotheses } => {
+            put_uses(b"closes", b"closes by ", hypotheses.as_slice(), out)
+        }
+        Deed::Cases { attempted, term } => {
+            put_attempt(*attempted, out)?;
+            put_cases(alloc, theory, term, out)
+        }
+        Deed::Opens { attempted } => {
+            put_attempt(*attempted, out)?;
+            put_opening(alloc, theory, state, account, out)
+        }
+        Deed::Ends { attempted } => put_attempt(*attempted, out),
     }
+}
+
+// An attempt was made that closed nothing.
+fn put_attempt(attempted: bool, out: &mut Vec<u8>) -> Result<(), AllocError>
+    ensures { OnOk result (out.new.items ≡ out.old.items ++ attempt_line attempted) }
+{
+    if attempted {
+        return out.extend_from_slice(b"attempt ends\n");
+    }
+    Ok(())
 }
 
 // A hidden goal is derived, and a visible one is split.

@@ -1,11 +1,12 @@
 use Rattle.std.proofs.Common.{◌≡◌, List, [], ap, sym, ◌∙◌, subst}
 use Rattle.std.proofs.lemmas.Result.{err_from_is_err_and}
 use Rattle.circ_theory.specs.declared.parts.Goal.{Goal}
-use Rattle.circ_conditional_search.specs.Coming.{ComesTrying, here, further}
 use Rattle.circ_plain_search.specs.Search.{Standing, Ending, All_done}
-use Rattle.circ_conditional_search.specs.Search.{turn_trying}
+use Rattle.circ_attempt.specs.Attempt.{Stood}
+use Rattle.circ_attempt.specs.RewritingSearch.{ComesRewriting, here_so, further_so}
+use Rattle.circ_attempt.specs.Search.{Going, going, turn_rewriting}
 use Rattle.circ_block.specs.Rules.{IsRulesOf}
-use Rattle.circ_turn.specs.Standing.{standing, manner_of}
+use Rattle.circ_turn.specs.Standing.{standing, manner_of, conduct_with}
 use Rattle.circ_turn.proofs.Earlier.{start_earlier}
 use Rattle.circ_turn.proofs.Turning.{is_end}
 use Rattle.circ_trace.specs.Telling.{IsTold}
@@ -17,70 +18,87 @@ pub loop-rules-init : goal.loop-rules-init
 loop-rules-init c =
     let th = c.args.search.now.theory.now in
     let G = c.args.search.now.gamma.now in
-    let m = manner_of c.args.search.now in
-    let none : (standing c.args.state.now).earlier ≡ [] = ap (λ x. x.earlier) c.requires.start.start ∙ start_earlier m.limits c.requires.start.blocks in
+    let m = conduct_with c.args.search.now.limits in
+    let st = standing c.args.state.now in
+    let old = c.args.out.now.items in
+    let none : st.earlier ≡ [] = ap (λ x. x.earlier) c.requires.start.start ∙ start_earlier (manner_of c.args.search.now).limits c.requires.start.blocks in
     let P : List Goal → Type 0 = λ E. IsRulesOf th E c.args.rules.now in
-    let Q : List Descent → Type 0 = λ ws. GoesOn th G m (standing c.args.state.now) c.args.out.now.items ws (standing c.args.state.now) c.args.out.now.items in
+    let C : Stood → Type 0 = λ ps. ComesRewriting th G m (going st []) (going st ps) in
+    let Q : List Descent → Type 0 = λ ws. GoesOn th G m st old ws (going st []) old in
+    let R : Stood → Type 0 = λ ps. GoesOn th G m st old c.args.waiting.now.items (going st ps) old in
     record {
-      comes = here;
+      comes = subst C (sym c.requires.passed) here_so;
       rules = subst P (sym none) c.requires.rules;
-      told = subst Q (sym c.requires.waiting) (from_start th G m (standing c.args.state.now) c.args.out.now.items);
+      passes = c.requires.passes;
+      told = subst R (sym c.requires.passed) (subst Q (sym c.requires.waiting) (from_start th G m st old));
     }
 
 pub tell-requires-clause-small : goal.tell-requires-clause-small
 tell-requires-clause-small c =
     let th = c.args.search.now.theory.now in
     let G = c.args.search.now.gamma.now in
-    let m = manner_of c.args.search.now in
-    let P : Standing → Type 0 = λ x. ComesTrying th G m x (standing c.loop-rules.state) in
-    c.standings_are_small.ensures th c.known.ensures G m c.requires.start.blocks c.requires.start.searchable (standing c.loop-rules.state)
+    let m = conduct_with c.args.search.now.limits in
+    let P : Standing → Type 0 = λ x. ComesRewriting th G m (going x []) (going (standing c.loop-rules.state) c.loop-rules.passed) in
+    c.standings_are_small.ensures th c.known.ensures G m c.requires.start.blocks c.requires.start.searchable (going (standing c.loop-rules.state) c.loop-rules.passed)
     (subst P c.requires.start.start c.loop-rules.invariant.comes)
 
-pub turn-requires-clause-small : goal.turn-requires-clause-small
-turn-requires-clause-small c =
+pub next_turn-requires-clause-derived : goal.next_turn-requires-clause-derived
+next_turn-requires-clause-derived c =
     let th = c.args.search.now.theory.now in
     let G = c.args.search.now.gamma.now in
-    let m = manner_of c.args.search.now in
-    let P : Standing → Type 0 = λ x. ComesTrying th G m x (standing c.loop-rules.state) in
-    c.standings_are_small.ensures th c.known.ensures G m c.requires.start.blocks c.requires.start.searchable (standing c.loop-rules.state)
+    let m = conduct_with c.args.search.now.limits in
+    let P : Standing → Type 0 = λ x. ComesRewriting th G m (going x []) (going (standing c.loop-rules.state) c.loop-rules.passed) in
+    c.derives_are_hypotheses.ensures th G m c.requires.start.blocks (going (standing c.loop-rules.state) c.loop-rules.passed)
     (subst P c.requires.start.start c.loop-rules.invariant.comes)
 
-pub turn-requires-clause-ready : goal.turn-requires-clause-ready
-turn-requires-clause-ready c = λ g rest n q e.
+pub next_turn-requires-clause-small : goal.next_turn-requires-clause-small
+next_turn-requires-clause-small c =
     let th = c.args.search.now.theory.now in
     let G = c.args.search.now.gamma.now in
-    let m = manner_of c.args.search.now in
-    let P : Standing → Type 0 = λ x. ComesTrying th G m x (standing c.loop-rules.state) in
-    c.normal_goals_are_ready.ensures th c.known.ensures G m c.requires.start.blocks c.requires.start.searchable (standing c.loop-rules.state)
+    let m = conduct_with c.args.search.now.limits in
+    let P : Standing → Type 0 = λ x. ComesRewriting th G m (going x []) (going (standing c.loop-rules.state) c.loop-rules.passed) in
+    c.standings_are_small.ensures th c.known.ensures G m c.requires.start.blocks c.requires.start.searchable (going (standing c.loop-rules.state) c.loop-rules.passed)
+    (subst P c.requires.start.start c.loop-rules.invariant.comes)
+
+pub next_turn-requires-clause-ready : goal.next_turn-requires-clause-ready
+next_turn-requires-clause-ready c = λ g rest n q e.
+    let th = c.args.search.now.theory.now in
+    let G = c.args.search.now.gamma.now in
+    let m = conduct_with c.args.search.now.limits in
+    let P : Standing → Type 0 = λ x. ComesRewriting th G m (going x []) (going (standing c.loop-rules.state) c.loop-rules.passed) in
+    c.normal_goals_are_ready.ensures th c.known.ensures G m c.requires.start.blocks c.requires.start.searchable (going (standing c.loop-rules.state) c.loop-rules.passed)
     (subst P c.requires.start.start c.loop-rules.invariant.comes) g rest q n e
 
-pub turn-requires-clause-next : goal.turn-requires-clause-next
-turn-requires-clause-next c = λ y t.
+pub next_turn-requires-clause-next : goal.next_turn-requires-clause-next
+next_turn-requires-clause-next c = λ y t.
     let th = c.args.search.now.theory.now in
     let G = c.args.search.now.gamma.now in
-    let m = manner_of c.args.search.now in
-    let P : Standing → Type 0 = λ x. ComesTrying th G m x y in
+    let m = conduct_with c.args.search.now.limits in
+    let P : Standing → Type 0 = λ x. ComesRewriting th G m (going x []) y in
     c.standings_are_small.ensures th c.known.ensures G m c.requires.start.blocks c.requires.start.searchable y
-    (subst P c.requires.start.start (further (standing c.loop-rules.state) y c.loop-rules.invariant.comes t))
+    (subst P c.requires.start.start (further_so (going (standing c.loop-rules.state) c.loop-rules.passed) y c.loop-rules.invariant.comes t))
 
 pub loop-rules-smaller : goal.loop-rules-smaller
 loop-rules-smaller c =
-    let t = rw (c.in-Ok-true.is, c.in-Ok-true.field-0-test) at c.turn.ensures.exact in
-    c.turns_end.ensures c.args.search.now.theory.now c.args.search.now.gamma.now (manner_of c.args.search.now) (standing c.loop-rules.state) (standing c.turn.new.state) t
+    let t = rw (c.in-Ok-true.is, c.in-Ok-true.field-0-test) at c.next_turn.ensures.exact in
+    c.turns_end.ensures c.args.search.now.theory.now c.args.search.now.gamma.now (conduct_with c.args.search.now.limits)
+    (going (standing c.loop-rules.state) c.loop-rules.passed) (going (standing c.next_turn.new.state) c.next_turn.new.passed) t
 
 pub loop-rules-preserved : goal.loop-rules-preserved
 loop-rules-preserved c =
     let th = c.args.search.now.theory.now in
     let G = c.args.search.now.gamma.now in
-    let m = manner_of c.args.search.now in
-    let st = standing c.loop-rules.state in
-    let next = standing c.turn.new.state in
-    let t = rw (c.in-Ok-true.is, c.in-Ok-true.field-0-test) at c.turn.ensures.exact in
-    let r = rw (c.in-Ok-true.is, c.in-Ok-true.field-0-test) at c.turn.ensures.rules in
+    let m = conduct_with c.args.search.now.limits in
+    let x = going (standing c.loop-rules.state) c.loop-rules.passed in
+    let next = going (standing c.next_turn.new.state) c.next_turn.new.passed in
+    let t = rw (c.in-Ok-true.is, c.in-Ok-true.field-0-test) at c.next_turn.ensures.exact in
+    let r = rw (c.in-Ok-true.is, c.in-Ok-true.field-0-test) at c.next_turn.ensures.rules in
+    let p = rw (c.in-Ok-true.is, c.in-Ok-true.field-0-test) at c.next_turn.ensures.passes in
     record {
-      comes = further st next c.loop-rules.invariant.comes t;
+      comes = further_so x next c.loop-rules.invariant.comes t;
       rules = r;
-      told = one_more th G m (standing c.args.state.now) c.args.out.now.items c.loop-rules.waiting.items c.tell.new.waiting.items st next
+      passes = p;
+      told = one_more th G m (standing c.args.state.now) c.args.out.now.items c.loop-rules.waiting.items c.tell.new.waiting.items x next
           c.loop-rules.out.items c.tell.new.out.items c.loop-rules.invariant.told t c.in_ok-tell.ensures.lines c.in_ok-tell.ensures.waiting;
     }
 
@@ -88,26 +106,28 @@ pub returns-in_err-tell : goal.returns-in_err-tell
 returns-in_err-tell c =
     let th = c.args.search.now.theory.now in
     let G = c.args.search.now.gamma.now in
-    memory_ends (IsTold th G (manner_of c.args.search.now) (standing c.args.state.now) c.args.out.now.items c.tell.new.out.items) (standing c.loop-rules.state)
+    memory_ends (IsTold th G (conduct_with c.args.search.now.limits) (standing c.args.state.now) c.args.out.now.items c.tell.new.out.items) (standing c.loop-rules.state)
     c.from_residual.result (err_from_is_err_and c.from_residual.result c.from_residual.ensures.1)
 
 pub returns-in-Ok-false : goal.returns-in-Ok-false
 returns-in-Ok-false c =
     let th = c.args.search.now.theory.now in
     let G = c.args.search.now.gamma.now in
-    let m = manner_of c.args.search.now in
-    let st = standing c.turn.new.state in
+    let m = conduct_with c.args.search.now.limits in
+    let st = standing c.next_turn.new.state in
     let e : Ending = All_done st.finished st.derives st.made st.deep in
-    let t = rw (c.in-Ok-false.is, c.in-Ok-false.field-0-test) at c.turn.ensures.exact in
-    the_last th G m (standing c.args.state.now) c.args.out.now.items c.loop-rules.waiting.items (standing c.loop-rules.state) e
+    let x : Going = going (standing c.loop-rules.state) c.loop-rules.passed in
+    let t = rw (c.in-Ok-false.is, c.in-Ok-false.field-0-test) at c.next_turn.ensures.exact in
+    the_last th G m (standing c.args.state.now) c.args.out.now.items c.loop-rules.waiting.items x e
     c.loop-rules.out.items c.tell.new.out.items c.loop-rules.invariant.told t c.in_ok-tell.ensures.lines
 
 pub returns-in-Err : goal.returns-in-Err
 returns-in-Err c =
     let th = c.args.search.now.theory.now in
     let G = c.args.search.now.gamma.now in
-    let m = manner_of c.args.search.now in
-    let t = rw c.in-Err.is at c.turn.ensures.exact in
-    is_end (IsTold th G m (standing c.args.state.now) c.args.out.now.items c.tell.new.out.items) (turn_trying th G m (standing c.loop-rules.state)) c.in-Err.end
-    (λ x y. the_last th G m (standing c.args.state.now) c.args.out.now.items c.loop-rules.waiting.items (standing c.loop-rules.state) x
-    c.loop-rules.out.items c.tell.new.out.items c.loop-rules.invariant.told y c.in_ok-tell.ensures.lines) t
+    let m = conduct_with c.args.search.now.limits in
+    let x : Going = going (standing c.loop-rules.state) c.loop-rules.passed in
+    let t = rw c.in-Err.is at c.next_turn.ensures.exact in
+    is_end (IsTold th G m (standing c.args.state.now) c.args.out.now.items c.tell.new.out.items) (turn_rewriting th G m x) c.in-Err.end
+    (λ y z. the_last th G m (standing c.args.state.now) c.args.out.now.items c.loop-rules.waiting.items x y
+    c.loop-rules.out.items c.tell.new.out.items c.loop-rules.invariant.told z c.in_ok-tell.ensures.lines) t
