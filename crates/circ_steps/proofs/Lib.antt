@@ -5,3 +5,5 @@ mod Entering
 mod Fresh
 mod Numbering
 mod Deriving
+mod Applied
+mod Lines
