@@ -1,5 +1,5 @@
 -- What is covered is what is guarded: a variable, an application by its arguments, and the whole.
-use Rattle.std.proofs.Common.{◌≡◌, ℕ, zero, suc, Bool, true, false, ◌&&◌, ◌||◌, ◌==◌, List, [], ◌∷◌, ◌++◌, Option, Some, None, IsTrue, ◌↔◌, ◌⊎◌, inl, inr, refl, ap, sym, subst, ◌∙◌}
+use Rattle.std.proofs.Common.{◌≡◌, ℕ, zero, suc, Bool, true, false, ◌&&◌, ◌||◌, ◌==◌, List, [], ◌∷◌, ◌++◌, Option, Some, None, Result, Ok, Err, IfOk, IsTrue, ◌↔◌, ◌⊎◌, inl, inr, refl, ap, sym, subst, ◌∙◌}
 use Rattle.std.specs.Prelude.{not}
 use Rattle.std.specs.List.{slice_get, Contains}
 use Rattle.std.proofs.lemmas.Bool.{and_parts, eqb-true, eq-eqb}
@@ -254,3 +254,17 @@ module _ (a : Asked) (ok : IsWellFormed a.rules.theory.now) (here : Bool) (f k :
 
   pub application_covered : (r : Bool) → (IsTrue r ↔ AreCovered a (here ≡ true) f cs (list_of ts)) → IsTrue r ↔ IsCovered a (here ≡ true) bs (App f k ts)
   application_covered r e = ((λ t. covered_up (e.0 t)), (λ g. e.1 (covered_down g)))
+
+-- ---- answers
+
+pub if_told : {E : Type 0} (P Q : Type 0) (r : Result Bool E) → ((b : Bool) → (IsTrue b ↔ P) → IsTrue b ↔ Q) → IfOk r (λ b. IsTrue b ↔ P) → IfOk r (λ b. IsTrue b ↔ Q)
+if_told P Q (Ok b) f h = f b h
+if_told P Q (Err e) f h = tt
+
+pub root_told : {E : Type 0} (a : Asked) (t : Tree) (bs : List Tree) → bs ≡ [] → (r : Result Bool E) → IfOk r (λ b. IsTrue b ↔ IsCovered a (true ≡ true) bs t)
+    → IfOk r (λ b. IsTrue b ↔ Guarded a.rules.theory.now a.rules.gamma.now t a.id a.sort)
+root_told a t bs e r h =
+    let x = root_covered a t in
+    let P : List Tree → Type 0 = λ xs. IfOk r (λ b. IsTrue b ↔ IsCovered a (true ≡ true) xs t) in
+    if_told (IsCovered a (true ≡ true) [] t) (Guarded a.rules.theory.now a.rules.gamma.now t a.id a.sort) r
+    (λ b k. ((λ y. x.0 (k.0 y)), (λ g. k.1 (x.1 g)))) (subst P e h)

@@ -1,8 +1,10 @@
 -- Members of lists of bodies, and numbers of lists.
 use Rattle.std.proofs.Common.{◌≡◌, ◌<◌, ◌≤◌, ◌+◌, ℕ, zero, suc, max, List, [], ◌∷◌, ◌++◌, map, drop, length, slice_index_or, Bool, true, false, Option, Some, None, refl, ap, sym, subst, ◌∙◌, arith}
 use Rattle.std.specs.List.{slice_get, filter_map, AllByRecursion, Contains}
-use Rattle.circ_term.specs.Tree.{Tree, args_of}
-use Rattle.circ_nodes.specs.Named.{tree_at}
+use Rattle.circ_term.specs.Tree.{Tree, Trees, App, args_of, trees_of}
+use Rattle.circ_nodes.specs.Named.{tree_at, IsNamed, AreNamed}
+use Rattle.circ_nodes.proofs.Located.{tree_named, trees_named}
+use Rattle.circ_nodes.proofs.Numbers.{all_below}
 use Rattle.circ_proof.proofs.Members.{nothing, pick}
 use Rattle.circ_certificates.specs.Covering.{below}
 
@@ -75,3 +77,11 @@ drop_here (x ∷ xs) (suc i) h = let e : suc i + 1 ≡ suc (i + 1) = omega arith
 pub one_more : {X : Type 0} (P : X → Type 0) (xs : List X) (x : X) → AllByRecursion P xs → P x → AllByRecursion P (xs ++ x ∷ [])
 one_more P [] x a p = (p, tt)
 one_more P (y ∷ xs) x a p = (a.0, one_more P xs x a.1 p)
+
+-- the arguments of a term that is taken apart
+pub args_there : (nodes : List Tree) (p f s : ℕ) (ns : List ℕ) → p < length nodes
+    → ((t : Tree) → IsNamed nodes p t → (ts : Trees) × (t ≡ App f s ts) × AreNamed nodes ns ts)
+    → AllByRecursion (λ n. n < length nodes) ns × (tree_at nodes p ≡ App f s (trees_of (map (tree_at nodes) ns)))
+args_there nodes p f s ns there shape =
+    let h = shape (tree_at nodes p) (tree_named nodes p there) in
+    (all_below nodes ns h.0 h.2, h.1 ∙ ap (App f s) (sym (trees_named nodes ns h.0 h.2)))

@@ -137,11 +137,11 @@ impl Asked<'_> {
             (terms_of self.now bodies.now) (terms_of self.now args.now)) }
     {
         for place in 0..args.len() {
-            let goes_on = self.goes_on(is_special, op, place as u16);
+            let inner = self.below(bodies, place)?;
             let visit = Visit {
                 term: args[place],
-                is_special: goes_on,
-                bodies: self.below(bodies, place)?,
+                is_special: self.goes_on(is_special, op, place as u16),
+                bodies: inner,
             };
             if !self.holds(seen, visit)? {
                 return Ok(false);

@@ -25,11 +25,12 @@ pub fn table_numbers(
     ensures there { IfOk result (λ v. AllByRecursion (λ n. n < length nodes.new) v.items) }
     ensures exact { IfOk result (λ v. map (tree_at nodes.new) v.items ≡ table.now) }
 {
-    if table.len() > MOST_LINES {
+    let count = table.len();
+    if count > MOST_LINES {
         return Err(AllocError);
     }
-    let mut numbers = Vec::with_capacity(alloc, table.len())?;
-    for number in 0..table.len() as u32 {
+    let mut numbers = Vec::with_capacity(alloc, count)?;
+    for number in 0..count as u32 {
         let line = table.line(number);
         let term = enter_line(alloc, nodes, numbers.as_slice(), line)?;
         numbers.push(term)?;
