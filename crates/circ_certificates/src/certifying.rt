@@ -104,10 +104,10 @@ fn certifies(
         start.now.place d (resolved_links (terms_at nodes.old rules.now)
         (plain_links links.now)))) }
 {
-    let Some(first) = start_term(rules.alloc, rules.theory, start, derivative)? else {
+    let Some(term) = start_term(rules.alloc, rules.theory, start, derivative)? else {
         return Ok(false);
     };
-    let first = nodes.intern(&first)?;
+    let first = nodes.intern(&term)?;
     let sources = Sources {
         alloc: rules.alloc,
         theory: rules.theory,

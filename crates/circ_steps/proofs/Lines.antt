@@ -2,7 +2,7 @@
 use Rattle.std.proofs.Common.{◌≡◌, ◌<◌, ◌≤◌, ◌+◌, ℕ, zero, suc, List, [], ◌∷◌, ◌++◌, map, take, length, get_or, slice_index_or, Option, Some, None, refl, ap, sym, subst, ◌∙◌, arith}
 use Rattle.std.proofs.Common.{length-append}
 use Rattle.std.specs.List.{slice_get, AllByRecursion}
-use Rattle.std.proofs.lemmas.List.{map-append, take_more, take_all}
+use Rattle.std.proofs.lemmas.List.{map-append, length-map, take_more, take_all}
 use Rattle.std.proofs.lemmas.Option.{get_or_from_slice_get, slice_get_within}
 use Rattle.circ_term.specs.Growing.{Grows}
 use Rattle.circ_term.specs.Tree.{Tree, Trees, none, more, trees_of}
@@ -42,6 +42,19 @@ module _ (nodes : List Tree) (ns : List ℕ) (there : AllByRecursion (λ n. n < 
           let same : t ∷ us ≡ ts = cc in
           let P : List Tree → Type 0 = λ xs. AreNamed nodes (slice_index_or ns k 0 ∷ map (λ k. slice_index_or ns k 0) ks) (trees_of xs) in
           subst P same (one_named k t a.0 (first_parts table k t f).0, args_named ks us a.1 g)
+
+pub all_taken : (count : ℕ) (ns : List ℕ) → AllByRecursion (λ n. n < count) ns → (ks : List ℕ) → AllByRecursion (λ k. k < length ns) ks
+    → AllByRecursion (λ n. n < count) (map (λ k. slice_index_or ns k 0) ks)
+all_taken count ns a [] b = tt
+all_taken count ns a (k ∷ ks) b = (one ns k a b.0, all_taken count ns a ks b.1)
+  where
+    one : (ns : List ℕ) (k : ℕ) → AllByRecursion (λ n. n < count) ns → k < length ns → slice_index_or ns k 0 < count
+    one [] k a l = absurd (omega (arith, l))
+    one (n ∷ ns) zero a l = a.0
+    one (n ∷ ns) (suc k) a l = one ns k a.1 (omega (arith, l))
+
+pub same_length : (f : ℕ → ℕ) (ks : List ℕ) → length (map f ks) ≡ length ks
+same_length f ks = length-map ks f
 
 -- ---- one line after another
 
