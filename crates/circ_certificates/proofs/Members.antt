@@ -45,8 +45,7 @@ from_below i (x ∷ bs) u c = go (slice_get (args_of x) i) refl c (λ d. above_l
   where
     go : (o : Option Tree) → slice_get (args_of x) i ≡ o → Contains (below i (x ∷ bs)) u → (Contains (below i bs) u → Above i (x ∷ bs) u) → Above i (x ∷ bs) u
     go None f d rest = rest (rw f at d)
-    go (Some y) f d rest =
-        pick (λ g. Above i (x ∷ bs) g) y u (below i bs) (record { term = x; member = first x bs; argument = f }) (λ h. above_later i bs x u (from_below i bs u h)) (rw f at d)
+    go (Some y) f d rest = pick (λ g. Above i (x ∷ bs) g) y u (below i bs) (record { term = x; member = first x bs; argument = f }) rest (rw f at d)
 
 -- ---- numbers
 

@@ -3,7 +3,7 @@ use Rattle.std.proofs.Common.{◌≡◌, ◌<◌, ◌≤◌, ◌+◌, ℕ, zero,
 use Rattle.std.specs.Prelude.{nat_eq}
 use Rattle.std.specs.List.{slice_get, list_any, AllByRecursion, Contains}
 use Rattle.std.specs.Cmp.Lexicographic.{pointwise}
-use Rattle.std.proofs.lemmas.Bool.{cases_Bool, cases_lt, and_parts, eqb-true, same_from_beq}
+use Rattle.std.proofs.lemmas.Bool.{cases_Bool, cases_lt, and_parts, eqb-true}
 use Rattle.std.proofs.lemmas.Option.{same_Some, slice_get_within}
 use Rattle.std.proofs.lemmas.Slice.Eq.{bytes_eq-Decides}
 use mathlib.Core.Bool.{beq}
@@ -22,13 +22,19 @@ use Rattle.circ_certificates.proofs.Members.{one_more}
 abbrev pub same_visit : Visit → Visit → Bool
 same_visit v w = (v.term == w.term) && (beq v.is_special w.is_special && pointwise nat_eq v.bodies.items w.bodies.items)
 
+same_flag : (b c : Bool) → beq b c ≡ true → b ≡ c
+same_flag true true e = refl
+same_flag true false e = absurd (cc)
+same_flag false true e = absurd (cc)
+same_flag false false e = refl
+
 -- what holds of one holds of the other
 holds_again : (a : Asked) (v w : Visit) → same_visit v w ≡ true → Holds a w → Holds a v
 holds_again a v w e h =
     let x = and_parts (v.term == w.term) (beq v.is_special w.is_special && pointwise nat_eq v.bodies.items w.bodies.items) e in
     let y = and_parts (beq v.is_special w.is_special) (pointwise nat_eq v.bodies.items w.bodies.items) x.1 in
     let term : w.term ≡ v.term = sym (eqb-true v.term w.term x.0) in
-    let special : w.is_special ≡ v.is_special = sym (same_from_beq v.is_special w.is_special y.0) in
+    let special : w.is_special ≡ v.is_special = sym (same_flag v.is_special w.is_special y.0) in
     let bodies : w.bodies.items ≡ v.bodies.items = sym ((bytes_eq-Decides v.bodies.items w.bodies.items).0 y.1) in
     let P : ℕ → Type 0 = λ n. IsCovered a (w.is_special ≡ true) (terms_of a w.bodies.items) (tree_at a.nodes.now n) in
     let Q : Bool → Type 0 = λ b. IsCovered a (b ≡ true) (terms_of a w.bodies.items) (tree_at a.nodes.now v.term) in
