@@ -16,21 +16,21 @@ fits-returns-then-sort-own t c =
     other_sort c.args.id c.args.sort v.number v.own b (tree_at nodes c.args.term) (v.ensures.shape b (tree_named nodes c.args.body c.requires.body))
     (λ e. c.if-sort-own.true (c.sort.ensures ∙ e))
 
-pub fits-returns-then-number-0 : goal.fits-returns-then-number-0
-fits-returns-then-number-0 t c =
+pub fits-returns-then-number-ne0 : goal.fits-returns-then-number-ne0
+fits-returns-then-number-ne0 t c =
     let nodes = c.args.nodes.now in
     let v = c.in-Variable in
     let b = tree_at nodes c.args.body in
     parameter c.args.id c.args.sort v.number v.own b (tree_at nodes c.args.term) (v.ensures.shape b (tree_named nodes c.args.body c.requires.body))
-    (sym c.sort.ensures ∙ c.if-sort-own.false) c.if-number-0.true
+    (sym c.sort.ensures ∙ c.if-sort-own.false) c.if-number-ne0.true
 
-pub fits-returns-in-Variable : goal.fits-returns-in-Variable
-fits-returns-in-Variable t c =
+pub fits-returns-else-number-ne0 : goal.fits-returns-else-number-ne0
+fits-returns-else-number-ne0 t c =
     let nodes = c.args.nodes.now in
     let v = c.in-Variable in
     let b = tree_at nodes c.args.body in
     hole c.args.id c.args.sort v.number v.own b (tree_at nodes c.args.term) (v.ensures.shape b (tree_named nodes c.args.body c.requires.body))
-    (sym c.sort.ensures ∙ c.if-sort-own.false) c.if-number-0.false c.is_variable.result c.is_variable.ensures
+    (sym c.sort.ensures ∙ c.if-sort-own.false) c.if-number-ne0.false c.is_variable.result c.is_variable.ensures
 
 pub fits-fits_application-requires : goal.fits-fits_application-requires
 fits-fits_application-requires t c =
