@@ -31,17 +31,18 @@ module _ (nodes : List Tree) (ns : List ℕ) (there : AllByRecursion (λ n. n < 
       → AreNamed nodes (map (λ k. slice_index_or ns k 0) ks) (trees_of ts)
   args_named [] [] a e = tt
   args_named [] (t ∷ ts) a e = absurd (cc)
-  args_named (k ∷ ks) ts a e = go (first_at table k) refl (firsts_at table ks) refl ts e
+  args_named (k ∷ ks) ts a e = go (first_at table k) refl (firsts_at table ks) refl ts e (λ us f. args_named ks us a.1 f)
     where
       go : (o : Option Tree) → first_at table k ≡ o → (p : Option (List Tree)) → firsts_at table ks ≡ p → (ts : List Tree) → firsts_at table (k ∷ ks) ≡ Some ts
+          → ((us : List Tree) → firsts_at table ks ≡ Some us → AreNamed nodes (map (λ k. slice_index_or ns k 0) ks) (trees_of us))
           → AreNamed nodes (slice_index_or ns k 0 ∷ map (λ k. slice_index_or ns k 0) ks) (trees_of ts)
-      go None f p g ts e = absurd (let z = rw f at e in cc)
-      go (Some t) f None g ts e = absurd (let z = rw (f, g) at e in cc)
-      go (Some t) f (Some us) g ts e =
+      go None f p g ts e ih = absurd (let z = rw f at e in cc)
+      go (Some t) f None g ts e ih = absurd (let z = rw (f, g) at e in cc)
+      go (Some t) f (Some us) g ts e ih =
           let z : Some (t ∷ us) ≡ Some ts = rw (f, g) at e in
           let same : t ∷ us ≡ ts = cc in
           let P : List Tree → Type 0 = λ xs. AreNamed nodes (slice_index_or ns k 0 ∷ map (λ k. slice_index_or ns k 0) ks) (trees_of xs) in
-          subst P same (one_named k t a.0 (first_parts table k t f).0, args_named ks us a.1 g)
+          subst P same (one_named k t a.0 (first_parts table k t f).0, ih us g)
 
 pub all_taken : (count : ℕ) (ns : List ℕ) → AllByRecursion (λ n. n < count) ns → (ks : List ℕ) → AllByRecursion (λ k. k < length ns) ks
     → AllByRecursion (λ n. n < count) (map (λ k. slice_index_or ns k 0) ks)

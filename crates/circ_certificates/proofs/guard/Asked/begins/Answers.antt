@@ -9,9 +9,9 @@ pub sort-requires : goal.sort-requires
 sort-requires c =
     let x = c.requires.derivative in named_below c.args.self.now.nodes.now c.args.derivative.now.hole (Var 0 x.0.hole) x.1.hole
 
-pub returns-then-sort-sort : goal.returns-then-sort-sort
-returns-then-sort-sort c = λ d is.
-    other_hole c.args.self.now c.args.is_special (tree_at c.args.self.now.nodes.now c.args.term) d c.args.derivative.now is c.sort.result c.sort.ensures c.if-sort-sort.true
+pub returns-then-sort-self : goal.returns-then-sort-self
+returns-then-sort-self c = λ d is.
+    other_hole c.args.self.now c.args.is_special (tree_at c.args.self.now.nodes.now c.args.term) d c.args.derivative.now is c.sort.result c.sort.ensures c.if-sort-self.true
 
 pub sort-2-requires : goal.sort-2-requires
 sort-2-requires c = let x = c.requires.derivative in named_below c.args.self.now.nodes.now c.args.derivative.now.body x.0.body x.1.body
@@ -19,7 +19,7 @@ sort-2-requires c = let x = c.requires.derivative in named_below c.args.self.now
 pub returns-then-not-counts : goal.returns-then-not-counts
 returns-then-not-counts c = λ d is.
     uncounted c.args.self.now c.args.is_special (tree_at c.args.self.now.nodes.now c.args.term) d c.args.derivative.now is c.sort.result c.sort-2.result c.sort.ensures
-    c.if-sort-sort.false c.sort-2.ensures (sym c.counts.ensures ∙ c.if-not-counts.true)
+    c.if-sort-self.false c.sort-2.ensures (sym c.counts.ensures ∙ c.if-not-counts.true)
 
 pub fits-requires-clause-body : goal.fits-requires-clause-body
 fits-requires-clause-body c = let x = c.requires.derivative in named_below c.args.self.now.nodes.now c.args.derivative.now.body x.0.body x.1.body
@@ -27,4 +27,4 @@ fits-requires-clause-body c = let x = c.requires.derivative in named_below c.arg
 pub returns : goal.returns
 returns c = λ d is.
     counted c.args.self.now c.args.is_special (tree_at c.args.self.now.nodes.now c.args.term) d c.args.derivative.now is c.sort.result c.sort-2.result c.sort.ensures
-    c.if-sort-sort.false c.sort-2.ensures (sym c.counts.ensures ∙ c.if-not-counts.false) c.fits.result c.fits.ensures
+    c.if-sort-self.false c.sort-2.ensures (sym c.counts.ensures ∙ c.if-not-counts.false) c.fits.result c.fits.ensures
