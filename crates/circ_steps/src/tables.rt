@@ -50,7 +50,7 @@ fn enter_line(
     ensures grows { Grows nodes.old nodes.new }
     ensures named { (table : List Tree) (t : Tree)
         → map (tree_at nodes.old) numbers.now ≡ take (length numbers.now) table
-        → IsLine table line t → IfOk result (λ n. IsNamed nodes.new n t) }
+        → IsLine table line.entry t → IfOk result (λ n. IsNamed nodes.new n t) }
 {
     match line {
         Line::Variable { number, sort } => nodes.variable(number, sort),

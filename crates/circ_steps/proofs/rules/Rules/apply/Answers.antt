@@ -1,7 +1,7 @@
 use Rattle.circ_proof.specs.PlainProof.{plain_step}
 use Rattle.circ_steps.specs.States.{state_at}
 use Rattle.circ_steps.proofs.Applied.{applied_sorted}
-use Rattle.circ_steps.proofs.applying.Rules.apply.Goals as goal
+use Rattle.circ_steps.proofs.rules.Rules.apply.Goals as goal
 
 pub returns-clause-sorted : goal.returns-clause-sorted
 returns-clause-sorted c =
