@@ -2,6 +2,8 @@
 use Rattle.std.proofs.Common.{◌≡◌, ◌<◌, ◌≤◌, ◌+◌, ℕ, zero, suc, max, List, [], ◌∷◌, ◌++◌, map, drop, length, slice_index_or, Bool, true, false, Option, Some, None, refl, ap, sym, subst, ◌∙◌, arith}
 use Rattle.std.specs.List.{slice_get, filter_map, AllByRecursion, Contains}
 use Rattle.circ_term.specs.Tree.{Tree, Trees, App, args_of, trees_of}
+use Rattle.std.proofs.lemmas.List.{length-map}
+use Rattle.circ_term.proofs.Trees.{list_of-trees_of}
 use Rattle.circ_nodes.specs.Named.{tree_at, IsNamed, AreNamed}
 use Rattle.circ_nodes.proofs.Located.{tree_named, trees_named}
 use Rattle.circ_nodes.proofs.Numbers.{all_below}
@@ -84,3 +86,7 @@ pub args_there : (nodes : List Tree) (p f s : ℕ) (ns : List ℕ) → p < lengt
 args_there nodes p f s ns there shape =
     let h = shape (tree_at nodes p) (tree_named nodes p there) in
     (all_below nodes ns h.0 h.2, h.1 ∙ ap (App f s) (sym (trees_named nodes ns h.0 h.2)))
+
+pub args_counted : (nodes : List Tree) (t : Tree) (f s : ℕ) (ns : List ℕ) → t ≡ App f s (trees_of (map (tree_at nodes) ns)) → length (args_of t) ≡ length ns
+args_counted nodes t f s ns e =
+    ap (λ u. length (args_of u)) e ∙ ap length (list_of-trees_of (map (tree_at nodes) ns)) ∙ length-map ns (tree_at nodes)

@@ -1,4 +1,4 @@
-use Rattle.std.proofs.Common.{List, ℕ, length, sym, subst, arith}
+use Rattle.std.proofs.Common.{◌<◌, List, ℕ, length, sym, subst, arith}
 use Rattle.std.specs.List.{AllByRecursion}
 use Rattle.circ_nodes.proofs.Numbers.{grows_self, grows_more}
 use Rattle.circ_nodes.proofs.Places.{get_there}
@@ -18,8 +18,8 @@ enter_line-requires-clause-there c = rw c.as_slice.ensures.value c.loop-number.i
 
 pub enter_line-requires-clause-before : goal.enter_line-requires-clause-before
 enter_line-requires-clause-before c =
-    let P : ℕ → Type 0 = λ k. AllByRecursion (λ n. n < k) (numbers_in c.line-in-loop-number.result) in
-    rw c.as_slice.ensures.value (subst P (sym c.loop-number.invariant.lines.count) c.line-in-loop-number.ensures.before)
+    let P : ℕ → Type 0 = λ k. AllByRecursion (λ n. n < k) (numbers_in c.line-line.result) in
+    rw c.as_slice.ensures.value (subst P (sym c.loop-number.invariant.lines.count) c.line-line.ensures.before)
 
 pub returns-in_err-term-clause-grows : goal.returns-in_err-term-clause-grows
 returns-in_err-term-clause-grows c =
@@ -37,7 +37,7 @@ loop-number-preserved c =
     let ns = at.numbers.items in
     let g = c.in_ok-term.ensures.grows in
     let found = get_there table i (omega (arith, c.loop-number-test.true, c.len-count.ensures)) in
-    let line = c.line-in-loop-number.ensures.line found.0 found.1 in
+    let line = c.line-line.ensures.line found.0 found.1 in
     let counted = lines_counted table at.nodes i ns at.invariant.lines in
     let named = c.in_ok-term.ensures.named table found.0 (rw c.as_slice.ensures.value counted) line in
     record {

@@ -7,7 +7,7 @@ use Rattle.circ_nodes.proofs.Located.{tree_named}
 use Rattle.circ_certificates.specs.declared.guard.Visit.{Visit}
 use Rattle.circ_certificates.specs.Covering.{terms_of, begun, IsCovered, AreCovered}
 use Rattle.circ_certificates.proofs.Covering.{ground_covered, variable_covered, application_covered, if_told}
-use Rattle.circ_certificates.proofs.Members.{above_least, above_each, all_there, args_there}
+use Rattle.circ_certificates.proofs.Members.{above_least, above_each, all_there, args_there, args_counted}
 use Rattle.circ_certificates.proofs.Seeing.{seen_holds, seen_put, hold_next, hold_stops, hold_all}
 use Rattle.circ_certificates.proofs.guard.Asked.+holds.Goals as goal
 
@@ -66,19 +66,20 @@ holds_below-all_hold-requires t c =
     let x = c.in-Application in
     let there = args_there a.nodes.now v.term x.op x.sort x.args.now c.requires.visit.term x.ensures.shape in
     let least = above_least x.args.now v.term x.ensures.before in
-    let few = x.ensures.few (tree_at a.nodes.now v.term) (tree_named a.nodes.now v.term c.requires.visit.term) in (
+    let few = x.ensures.few (tree_at a.nodes.now v.term) (tree_named a.nodes.now v.term c.requires.visit.term) in
+    let long = args_counted a.nodes.now (tree_at a.nodes.now v.term) x.op x.sort x.args.now there.1 in (
       omega (arith, least),
       (
         c.requires.asked,
         (
           there.0,
-          (omega arith, (subst (AllByRecursion (λ n. n < length a.nodes.now)) (sym c.as_slice-in-Application.ensures) c.in_ok-bodies.ensures.there, c.requires.seen)),
+          (omega (arith, few, long), (subst (AllByRecursion (λ n. n < length a.nodes.now)) (sym c.as_slice-in-Application.ensures) c.in_ok-bodies.ensures.there, c.requires.seen)),
         ),
       ),
     )
 
-pub holds_below-returns-in-Application-clause-exact : goal.holds_below-returns-in-Application-clause-exact
-holds_below-returns-in-Application-clause-exact t c =
+pub holds_below-returns-clause-exact : goal.holds_below-returns-clause-exact
+holds_below-returns-clause-exact t c =
     let a = c.args.self.now in
     let v = c.args.visit.now in
     let x = c.in-Application in

@@ -13,8 +13,8 @@ pub returns-then-sort-self : goal.returns-then-sort-self
 returns-then-sort-self c = λ d is.
     other_hole c.args.self.now c.args.is_special (tree_at c.args.self.now.nodes.now c.args.term) d c.args.derivative.now is c.sort.result c.sort.ensures c.if-sort-self.true
 
-pub sort-2-requires : goal.sort-2-requires
-sort-2-requires c = let x = c.requires.derivative in named_below c.args.self.now.nodes.now c.args.derivative.now.body x.0.body x.1.body
+pub sort-requires-2 : goal.sort-requires-2
+sort-requires-2 c = let x = c.requires.derivative in named_below c.args.self.now.nodes.now c.args.derivative.now.body x.0.body x.1.body
 
 pub returns-then-not-counts : goal.returns-then-not-counts
 returns-then-not-counts c = λ d is.
