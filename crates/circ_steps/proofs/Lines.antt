@@ -1,11 +1,11 @@
 -- The terms of a table, entered line by line.
-use Rattle.std.proofs.Common.{◌≡◌, ◌<◌, ◌≤◌, ◌+◌, ℕ, zero, suc, List, [], ◌∷◌, ◌++◌, map, take, length, get_or, slice_index_or, Option, Some, None, refl, ap, sym, subst, ◌∙◌, arith}
+use Rattle.std.proofs.Common.{◌≡◌, ◌<◌, ◌≤◌, ◌+◌, ℕ, zero, suc, List, [], ◌∷◌, ◌++◌, map, take, length, slice_index_or, Option, Some, None, refl, ap, sym, subst, ◌∙◌, arith}
 use Rattle.std.proofs.Common.{length-append}
 use Rattle.std.specs.List.{slice_get, AllByRecursion}
 use Rattle.std.proofs.lemmas.List.{map-append, length-map, take_more, take_all}
 use Rattle.std.proofs.lemmas.Option.{get_or_from_slice_get, slice_get_within}
 use Rattle.circ_term.specs.Growing.{Grows}
-use Rattle.circ_term.specs.Tree.{Tree, Trees, none, more, trees_of}
+use Rattle.circ_term.specs.Tree.{Tree, trees_of}
 use Rattle.circ_nodes.specs.Named.{IsNamed, AreNamed, tree_at}
 use Rattle.circ_nodes.proofs.Located.{tree_named, named_tree, trees_later}
 use Rattle.circ_nodes.proofs.Numbers.{named_below}

@@ -1,8 +1,7 @@
-use Rattle.std.proofs.Common.{◌≡◌, ◌<◌, ℕ, List, length, map, slice_index_or, ap, sym, subst, ◌∙◌, arith}
+use Rattle.std.proofs.Common.{◌<◌, length, slice_index_or, ap, sym, subst, arith}
 use Rattle.std.specs.List.{AllByRecursion}
-use Rattle.circ_term.specs.Tree.{App, trees_of}
-use Rattle.circ_nodes.specs.Named.{IsNamed, AreNamed}
-use Rattle.circ_nodes.proofs.Numbers.{all_below}
+use Rattle.circ_term.specs.Tree.{trees_of}
+use Rattle.circ_nodes.specs.Named.{AreNamed}
 use Rattle.circ_steps.proofs.Lines.{args_named, all_taken, same_length}
 use Rattle.circ_steps.proofs.tables.enter_line.Goals as goal
 

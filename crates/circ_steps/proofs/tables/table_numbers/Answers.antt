@@ -1,4 +1,4 @@
-use Rattle.std.proofs.Common.{◌<◌, List, ℕ, length, sym, subst, arith}
+use Rattle.std.proofs.Common.{◌<◌, List, ℕ, sym, subst, arith}
 use Rattle.std.specs.List.{AllByRecursion}
 use Rattle.circ_nodes.proofs.Numbers.{grows_self, grows_more}
 use Rattle.circ_nodes.proofs.Places.{get_there}
