@@ -3,8 +3,8 @@ mod Fronts
 mod Splitting
 mod Entering
 mod Fresh
-pub mod Numbering
-pub mod Deriving
-mod Applied
+mod Numbering
+mod Deriving
+mod Finished
 mod Lines
 mod Cutting

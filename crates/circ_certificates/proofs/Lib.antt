@@ -1,6 +1,0 @@
-mod Members
-mod Fits
-mod Covering
-mod Beginning
-mod Seeing
-mod Certified
