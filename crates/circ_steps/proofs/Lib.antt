@@ -5,3 +5,6 @@ mod Entering
 mod Fresh
 mod Numbering
 mod Deriving
+mod Finished
+mod Lines
+mod Cutting

@@ -3,18 +3,21 @@
 //! Terms go by their numbers in a table of circ_nodes, so that what a step costs is bounded by its
 //! links and by the distinct nodes that it meets, however large the terms are that the numbers
 //! stand for. [`SharedState`] has hypotheses and goals by number, and [`Rules`] does steps on it;
-//! [`equations`] and [`derivatives`] give those of a
-//! theory by number.
+//! [`equations`] and [`derivatives`] give those of a theory by number, and [`table_numbers`] the
+//! numbers of a table's terms.
 #![tactic(auto)]
 
 mod cases;
 mod derivative;
 mod derive;
+mod ending;
 mod rules;
 mod sharing;
 mod states;
+mod tables;
 
 pub use derivative::{SharedDerivative, derivatives};
 pub use rules::Rules;
 pub use sharing::{equations, share_pairs};
 pub use states::{SharedGoal, SharedState};
+pub use tables::table_numbers;
