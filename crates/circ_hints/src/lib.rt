@@ -2,8 +2,8 @@
 //!
 //! Nothing is promised of a hint but that it is made safely and in finite time. [`Asked`] takes the
 //! words of a run apart; [`unreadable`], [`unread_expression`], [`stuck_goal`], [`stuck_end`],
-//! [`search_calls`], [`explain_call`], [`misfit`] and [`usage`] give the hint of an answer, from the
-//! same words and the same files. [`SeenLines`] sees the cases and the sides that an answer has
+//! [`search_calls`], [`no_difference`], [`explain_call`], [`misfit`] and [`usage`] give the hint of
+//! an answer, from the same words and the same files. [`SeenLines`] sees the cases and the sides that an answer has
 //! printed, and [`Progress`] how much of a file was taken.
 #![tactic(auto)]
 
@@ -12,6 +12,7 @@ mod causes;
 mod commands;
 mod conditions;
 mod declared;
+mod differ_hint;
 mod drawing;
 mod expressions;
 mod known;
@@ -34,6 +35,7 @@ mod texts;
 mod unreadable_hint;
 mod usage_hint;
 
+pub use differ_hint::no_difference;
 pub use expressions::unread_expression;
 pub use misfit_hint::misfit;
 pub use progress::Progress;

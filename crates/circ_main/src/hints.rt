@@ -2,7 +2,7 @@
 //! which word is no command, why a file was not read.
 use crate::read_faults::why_unread;
 use circ_hints::{
-    Asked, Seen, Source, explain_call, misfit, search_calls, stuck_end, stuck_goal,
+    Asked, Seen, Source, explain_call, misfit, no_difference, search_calls, stuck_end, stuck_goal,
     unread_expression, unreadable, usage,
 };
 use circ_read::Cause;
@@ -41,6 +41,7 @@ fn hint<R: Files + AllocGlobal>(
     let asked = Asked::new(words);
     match status {
         Status::Usage => Ok(Some(usage(rt.alloc(), words)?)),
+        Status::Ok if asked.command() == "differ" => no_difference_hint(rt, asked),
         Status::Unreadable { file, place, cause } => {
             unreadable_hint(rt, asked, *file, *place, cause)
         }
@@ -53,6 +54,17 @@ fn hint<R: Files + AllocGlobal>(
         Status::ReadFault { .. } => read_fault_hint(rt, name),
         _ => Ok(None),
     }
+}
+
+/// What keeps a `differ` from telling the goals apart, if that is seen in the theory.
+fn no_difference_hint<R: Files + AllocGlobal>(
+    rt: &R,
+    asked: Asked<'_>,
+) -> Result<Option<String>, AllocError> {
+    let Some((_, theory)) = file_of(rt, asked, THEORY_FILE) else {
+        return Ok(None);
+    };
+    Ok(Some(no_difference(rt.alloc(), theory.as_slice())?))
 }
 
 /// Why the file of a name was not read, if that is seen.
