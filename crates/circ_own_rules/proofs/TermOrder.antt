@@ -11,7 +11,7 @@ use Rattle.circ_term.specs.Substitution.{Substitution, instance, instances}
 use Rattle.circ_term.proofs.Order.{trees_equal}
 use Rattle.circ_term.proofs.Within.{drop_read}
 use Rattle.circ_attempt.specs.Below.{is_below, are_below}
-use Rattle.circ_own_rules.specs.Standing.{standing, standings, standing_to, equal_or_greater}
+use Rattle.circ_own_rules.specs.TermOrder.{term_order, terms_order, order_to, equal_or_greater}
 
 less_then : (a b : Ordering) → is_lt (ordering_then a b) ≡ (is_lt a || (is_eq a && is_lt b))
 less_then Less b = refl
@@ -59,41 +59,41 @@ apart_then Less b h = refl
 apart_then Equal b h = absurd (h refl)
 apart_then Greater b h = refl
 
-pub more_behind : (ts : List Tree) (n : ℕ) → n < length ts → Greater ≡ standings none (trees_of (drop n ts))
+pub more_behind : (ts : List Tree) (n : ℕ) → n < length ts → Greater ≡ terms_order none (trees_of (drop n ts))
 more_behind [] n h = absurd (omega (arith, h))
 more_behind (t ∷ ts) zero h = refl
 more_behind (t ∷ ts) (suc n) h = more_behind ts n (omega (arith, h))
 
-pub none_behind : (ts : List Tree) (n : ℕ) → length ts ≤ n → Equal ≡ standings none (trees_of (drop n ts))
+pub none_behind : (ts : List Tree) (n : ℕ) → length ts ≤ n → Equal ≡ terms_order none (trees_of (drop n ts))
 none_behind ts n h = rw (drop_all n ts h) refl
 
 standings_read : (t : Tree) (ss : Trees) (ts : List Tree) (i : ℕ)
-    → standings (more t ss) (trees_of (drop i ts)) ≡ ordering_then (standing_to t (slice_get ts i)) (standings ss (trees_of (drop (suc i) ts)))
+    → terms_order (more t ss) (trees_of (drop i ts)) ≡ ordering_then (order_to t (slice_get ts i)) (terms_order ss (trees_of (drop (suc i) ts)))
 standings_read t ss [] zero = refl
 standings_read t ss [] (suc i) = refl
 standings_read t ss (u ∷ ts) zero = refl
 standings_read t ss (u ∷ ts) (suc i) = standings_read t ss ts i
 
 pub first_stands : (t : Tree) (ss : Trees) (ts : List Tree) (i : ℕ)
-    → standings (more t ss) (trees_of (drop i ts)) ≡ ordering_then (standing_to t (slice_get ts i)) (standings ss (trees_of (drop (i + 1) ts)))
+    → terms_order (more t ss) (trees_of (drop i ts)) ≡ ordering_then (order_to t (slice_get ts i)) (terms_order ss (trees_of (drop (i + 1) ts)))
 first_stands t ss ts i =
     standings_read t ss ts i
-    ∙ ap (λ n. ordering_then (standing_to t (slice_get ts i)) (standings ss (trees_of (drop n ts)))) (let next : suc i ≡ i + 1 = omega arith in next)
+    ∙ ap (λ n. ordering_then (order_to t (slice_get ts i)) (terms_order ss (trees_of (drop n ts)))) (let next : suc i ≡ i + 1 = omega arith in next)
 
 row_read : (ts us : List Tree) (i : ℕ) (t : Tree) → i < length ts → t ≡ get_or ts i t
-    → standings (trees_of (drop i ts)) (trees_of (drop i us)) ≡ ordering_then (standing_to t (slice_get us i)) (standings (trees_of (drop (i + 1) ts)) (trees_of (drop (i + 1) us)))
+    → terms_order (trees_of (drop i ts)) (trees_of (drop i us)) ≡ ordering_then (order_to t (slice_get us i)) (terms_order (trees_of (drop (i + 1) ts)) (trees_of (drop (i + 1) us)))
 row_read ts us i t h e = rw (drop_read ts i t h e) (first_stands t (trees_of (drop (i + 1) ts)) us i)
 
-pub row_apart : (ts us : List Tree) (i : ℕ) (t : Tree) (o : Ordering) → i < length ts → t ≡ get_or ts i t → o ≡ standing_to t (slice_get us i) → (o ≡ Equal → ⊥)
-    → o ≡ standings (trees_of (drop i ts)) (trees_of (drop i us))
+pub row_apart : (ts us : List Tree) (i : ℕ) (t : Tree) (o : Ordering) → i < length ts → t ≡ get_or ts i t → o ≡ order_to t (slice_get us i) → (o ≡ Equal → ⊥)
+    → o ≡ terms_order (trees_of (drop i ts)) (trees_of (drop i us))
 row_apart ts us i t o h e is apart =
-    let rest = standings (trees_of (drop (i + 1) ts)) (trees_of (drop (i + 1) us)) in
+    let rest = terms_order (trees_of (drop (i + 1) ts)) (trees_of (drop (i + 1) us)) in
     sym (row_read ts us i t h e ∙ ap (λ x. ordering_then x rest) (sym is) ∙ apart_then o rest apart)
 
-pub row_on : (ts us : List Tree) (i : ℕ) (t : Tree) (o : Ordering) → i < length ts → t ≡ get_or ts i t → o ≡ standing_to t (slice_get us i) → o ≡ Equal
-    → standings (trees_of (drop (i + 1) ts)) (trees_of (drop (i + 1) us)) ≡ standings (trees_of (drop i ts)) (trees_of (drop i us))
+pub row_on : (ts us : List Tree) (i : ℕ) (t : Tree) (o : Ordering) → i < length ts → t ≡ get_or ts i t → o ≡ order_to t (slice_get us i) → o ≡ Equal
+    → terms_order (trees_of (drop (i + 1) ts)) (trees_of (drop (i + 1) us)) ≡ terms_order (trees_of (drop i ts)) (trees_of (drop i us))
 row_on ts us i t o h e is same =
-    let rest = standings (trees_of (drop (i + 1) ts)) (trees_of (drop (i + 1) us)) in
+    let rest = terms_order (trees_of (drop (i + 1) ts)) (trees_of (drop (i + 1) us)) in
     sym (row_read ts us i t h e ∙ ap (λ x. ordering_then x rest) (sym is ∙ same))
 
 -- ---- an instance beside a term
@@ -108,12 +108,12 @@ module _ (σ : Substitution) (ps : List Tree) (i : ℕ) (p : Tree) (h : i < leng
   rest = trees_of (drop (i + 1) ps)
 
   -- one argument more
-  pub instance_on : (us : List Tree) (before o : Ordering) → o ≡ ordering_then before (standing_to (instance σ p) (slice_get us i))
-      → ordering_then o (standings (instances σ rest) (trees_of (drop (i + 1) us)))
-      ≡ ordering_then before (standings (instances σ (trees_of (drop i ps))) (trees_of (drop i us)))
+  pub instance_on : (us : List Tree) (before o : Ordering) → o ≡ ordering_then before (order_to (instance σ p) (slice_get us i))
+      → ordering_then o (terms_order (instances σ rest) (trees_of (drop (i + 1) us)))
+      ≡ ordering_then before (terms_order (instances σ (trees_of (drop i ps))) (trees_of (drop i us)))
   instance_on us before o is =
       rw (drop_read ps i p h e, first_stands (instance σ p) (instances σ rest) us i, is)
-      (then_then before (standing_to (instance σ p) (slice_get us i)) (standings (instances σ rest) (trees_of (drop (i + 1) us))))
+      (then_then before (order_to (instance σ p) (slice_get us i)) (terms_order (instances σ rest) (trees_of (drop (i + 1) us))))
 
   pub size_on : sizes_of (instances σ (trees_of (drop i ps))) ≡ size_of (instance σ p) + sizes_of (instances σ rest)
   size_on = rw (drop_read ps i p h e) refl
@@ -141,7 +141,7 @@ parts_equal false true false d h = refl
 parts_equal false false false d h = refl
 
 mutual
-  pub same_stands : (t u : Tree) → is_eq (standing t u) ≡ is_same t u
+  pub same_stands : (t u : Tree) → is_eq (term_order t u) ≡ is_same t u
   same_stands (Var n s) (Var m k) = refl
   same_stands (Var n s) (App g k us) = refl
   same_stands (App f s ts) (Var m k) = refl
@@ -149,41 +149,41 @@ mutual
       let size : Ordering = nat_cmp (sizes_of ts + 1) (sizes_of us + 1) in
       let op : Ordering = nat_cmp f g in
       let args : Ordering = trees_cmp ts us in
-      equal_then (ordering_then size (ordering_then op (standings ts us))) (equal_or_greater (s == k))
-      ∙ ap (λ b. b && is_eq (equal_or_greater (s == k))) (equal_then size (ordering_then op (standings ts us)) ∙ ap (λ b. is_eq size && b) (equal_then op (standings ts us)))
+      equal_then (ordering_then size (ordering_then op (terms_order ts us))) (equal_or_greater (s == k))
+      ∙ ap (λ b. b && is_eq (equal_or_greater (s == k))) (equal_then size (ordering_then op (terms_order ts us)) ∙ ap (λ b. is_eq size && b) (equal_then op (terms_order ts us)))
       ∙ ap (λ b. (is_eq size && (is_eq op && b)) && is_eq (equal_or_greater (s == k))) (sames_stand ts us)
       ∙ ap (λ b. (is_eq size && (is_eq op && is_eq args)) && b) (told (s == k) ∙ sym (number_equal s k))
       ∙ parts_equal (is_eq size) (is_eq op) (is_eq args) (is_eq (nat_cmp s k))
       (λ x. next_equal (sizes_of ts) (sizes_of us) ∙ eq-eqb (sizes_of ts) (sizes_of us) (ap sizes_of (trees_equal ts us (equal_of args x))))
       ∙ ap (λ b. is_eq op && b) (sym (equal_then args (nat_cmp s k))) ∙ sym (equal_then op (ordering_then args (nat_cmp s k)))
 
-  sames_stand : (ts us : Trees) → is_eq (standings ts us) ≡ is_eq (trees_cmp ts us)
+  sames_stand : (ts us : Trees) → is_eq (terms_order ts us) ≡ is_eq (trees_cmp ts us)
   sames_stand none none = refl
   sames_stand none (more u us) = refl
   sames_stand (more t ts) none = refl
   sames_stand (more t ts) (more u us) =
-      equal_then (standing t u) (standings ts us) ∙ ap (λ b. b && is_eq (standings ts us)) (same_stands t u) ∙ ap (λ b. is_same t u && b) (sames_stand ts us)
+      equal_then (term_order t u) (terms_order ts us) ∙ ap (λ b. b && is_eq (terms_order ts us)) (same_stands t u) ∙ ap (λ b. is_same t u && b) (sames_stand ts us)
       ∙ sym (equal_then (tree_cmp t u) (trees_cmp ts us))
 
 mutual
-  pub below_stands : (t u : Tree) → is_lt (standing t u) ≡ is_below t u
+  pub below_stands : (t u : Tree) → is_lt (term_order t u) ≡ is_below t u
   below_stands (Var n s) (Var m k) = less_then (nat_cmp n m) (nat_cmp s k) ∙ rw (number_less n m, number_equal n m, number_less s k) refl
   below_stands (Var n s) (App g k us) = refl
   below_stands (App f s ts) (Var m k) = refl
   below_stands (App f s ts) (App g k us) =
       let size : Ordering = nat_cmp (sizes_of ts + 1) (sizes_of us + 1) in
       let op : Ordering = nat_cmp f g in
-      let all : Ordering = ordering_then size (ordering_then op (standings ts us)) in
+      let all : Ordering = ordering_then size (ordering_then op (terms_order ts us)) in
       less_then all (equal_or_greater (s == k)) ∙ ap (λ b. is_lt all || (is_eq all && b)) (not_less (s == k)) ∙ ap (λ b. is_lt all || b) (and_false (is_eq all)) ∙ or_false (is_lt all)
-      ∙ less_then size (ordering_then op (standings ts us))
-      ∙ rw (less_then op (standings ts us), next_less (sizes_of ts) (sizes_of us), next_equal (sizes_of ts) (sizes_of us), number_less f g, number_equal f g, belows_stand ts us) refl
+      ∙ less_then size (ordering_then op (terms_order ts us))
+      ∙ rw (less_then op (terms_order ts us), next_less (sizes_of ts) (sizes_of us), next_equal (sizes_of ts) (sizes_of us), number_less f g, number_equal f g, belows_stand ts us) refl
 
-  belows_stand : (ts us : Trees) → is_lt (standings ts us) ≡ are_below ts us
+  belows_stand : (ts us : Trees) → is_lt (terms_order ts us) ≡ are_below ts us
   belows_stand none none = refl
   belows_stand none (more u us) = refl
   belows_stand (more t ts) none = refl
   belows_stand (more t ts) (more u us) =
-      first_decides (standing t u) (standings ts us)
-      ∙ ap (λ b. if is_eq (standing t u) then is_lt (standings ts us) else b) (below_stands t u)
-      ∙ ap (λ b. if is_eq (standing t u) then b else is_below t u) (belows_stand ts us)
+      first_decides (term_order t u) (terms_order ts us)
+      ∙ ap (λ b. if is_eq (term_order t u) then is_lt (terms_order ts us) else b) (below_stands t u)
+      ∙ ap (λ b. if is_eq (term_order t u) then b else is_below t u) (belows_stand ts us)
       ∙ ap (λ b. if b then are_below ts us else is_below t u) (same_stands t u)
