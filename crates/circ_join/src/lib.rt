@@ -27,7 +27,6 @@ pub use hypotheses::Hypotheses;
 pub use joining::{Joining, has_place};
 pub use lemmas::Lemmas;
 pub use passing::{Passing, Swept};
-
 pub use putting::{put_all, put_at};
 pub use reading::can_rewrite;
 pub use stop::Stop;

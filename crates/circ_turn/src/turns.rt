@@ -25,9 +25,7 @@ use crate::end::End;
 use crate::search::Search;
 use crate::state::State;
 use circ_block::BlockRules;
-use circ_join::{
-    HypothesisUse, Joining, Lemmas, Passing, Stop, SweptSides, put_all, use_links,
-};
+use circ_join::{HypothesisUse, Joining, Lemmas, Passing, Stop, SweptSides, put_all, use_links};
 use circ_proof::{Chain, Why};
 use circ_rewrite::RewriteFault;
 use circ_split::{Sides, Splitting, normal_sides};
