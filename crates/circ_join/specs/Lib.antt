@@ -5,4 +5,4 @@ pub mod Lemmas
 pub mod Trying
 pub mod Binding
 pub mod Sweeping
-pub mod SweptSides
+pub mod Sides

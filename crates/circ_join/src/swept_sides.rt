@@ -2,7 +2,7 @@
 ghost use Rattle.std.specs.Prelude.{◌≡◌};
 ghost use Rattle.circ_conditional_search.specs.Search.{pass_chain};
 ghost use Rattle.circ_plain_search.specs.Search.{has_links};
-ghost use Rattle.circ_join.specs.SweptSides.{plain_swept_sides};
+ghost use Rattle.circ_join.specs.Sides.{plain_swept_sides};
 
 use crate::passing::Swept;
 

@@ -2,7 +2,7 @@
 ghost use Rattle.std.specs.Prelude.{◌≡◌, ◌≤◌, ◌++◌};
 ghost use Rattle.circ_attempt.specs.Passes.{both_swept};
 ghost use Rattle.circ_attempt.specs.Rules.{first_rule_use};
-ghost use Rattle.circ_join.specs.SweptSides.{plain_swept_sides};
+ghost use Rattle.circ_join.specs.Sides.{plain_swept_sides};
 ghost use Rattle.circ_join.specs.Trying.{normaliser_of, Works};
 
 use crate::rules::HypothesisRules;

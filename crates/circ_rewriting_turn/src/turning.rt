@@ -14,7 +14,7 @@ ghost use Rattle.circ_attempt.specs.Search.{pass_turn_rewriting, after_pass_turn
 ghost use Rattle.circ_attempt.specs.Passes.{both_swept};
 ghost use Rattle.circ_attempt.specs.Rules.{first_rule_use, lemmas_of};
 ghost use Rattle.circ_block.specs.Rules.{IsRulesOf};
-ghost use Rattle.circ_join.specs.SweptSides.{plain_swept_sides};
+ghost use Rattle.circ_join.specs.Sides.{plain_swept_sides};
 ghost use Rattle.circ_join.specs.Trying.{Works};
 ghost use Rattle.circ_moves.specs.Plain.{plain_moves};
 ghost use Rattle.circ_proof.specs.Plain.{plain_chain};

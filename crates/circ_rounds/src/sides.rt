@@ -2,7 +2,7 @@
 ghost use Rattle.std.specs.Prelude.{◌≡◌, ◌≤◌, ℕ, IfOk};
 ghost use Rattle.circ_attempt.specs.Attempt.{both_normal};
 ghost use Rattle.circ_conditional_search.specs.Search.{passed_sides};
-ghost use Rattle.circ_join.specs.SweptSides.{plain_swept_sides};
+ghost use Rattle.circ_join.specs.Sides.{plain_swept_sides};
 ghost use Rattle.circ_join.specs.Trying.{Works};
 ghost use Rattle.circ_rounds.specs.Running.{plain_sides};
 

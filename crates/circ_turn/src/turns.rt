@@ -14,7 +14,7 @@ ghost use Rattle.circ_conditional_search.specs.Search.{normal_sides_trying, with
 ghost use Rattle.circ_conditional_search.specs.Search.{swept_sides_trying};
 ghost use Rattle.circ_conditional_search.specs.Search.{passed_sides};
 ghost use Rattle.circ_block.specs.Rules.{IsRulesOf};
-ghost use Rattle.circ_join.specs.SweptSides.{plain_swept_sides};
+ghost use Rattle.circ_join.specs.Sides.{plain_swept_sides};
 ghost use Rattle.circ_join.specs.Trying.{Works};
 ghost use Rattle.circ_join.specs.Uses.{plain_uses};
 ghost use Rattle.circ_proof.specs.Plain.{plain_chain};

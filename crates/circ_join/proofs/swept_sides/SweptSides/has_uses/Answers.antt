@@ -1,5 +1,5 @@
 use Rattle.std.proofs.Common.{sym, ◌∙◌}
-use Rattle.circ_join.proofs.SweptSides.{has_left_uses}
+use Rattle.circ_join.proofs.Sides.{has_left_uses}
 use Rattle.circ_join.proofs.swept_sides.SweptSides.has_uses.Goals as goal
 
 pub returns-then-not-is_empty : goal.returns-then-not-is_empty
