@@ -33,11 +33,25 @@ pub(crate) fn unread_word<'a>(
     part: Part,
 ) -> Result<Mark, AllocError> {
     let from = terms_begin(tokens, part);
-    let seen = Names::before(alloc, source, tokens, part)?.seen_mark(tokens, part, from);
-    match seen {
+    match seen_mark(alloc, source, tokens, part, from)? {
         Some(mark) => Ok(mark),
         None => unread_part(alloc, source, tokens, part, from),
     }
+}
+
+/// The mark of a word that nothing before the part declares, or else of a parenthesis without its
+/// other one.
+fn seen_mark<'a>(
+    alloc: Global,
+    source: &Source<'a>,
+    tokens: &Tokens<'a>,
+    part: Part,
+    from: usize,
+) -> Result<Option<Mark>, AllocError> {
+    let names = Names::before(alloc, source, tokens, part)?;
+    let mark = names.seen_mark(tokens, part, from);
+    drop(names);
+    Ok(mark)
 }
 
 /// The mark behind the longest part that reads, or of the whole.

@@ -5,8 +5,8 @@
 //! A row has the parts of other rows. Its `stores` names the file that the command stores, which
 //! holds another text before. Behind each run with a fault the same words are run once more on the
 //! same shelf, which must come out whole.
-use crate::NEXT;
 use crate::row::{Row, count};
+use crate::{NEXT, no_rows, print_row};
 use circ_outer::{MemoryShelf, MemorySink, Shelf, Sink};
 use circ_top::circ;
 use std::alloc::{AllocError, Global};
@@ -119,21 +119,25 @@ impl fmt::Display for Came {
 
 /// Prints what comes of each row of a table.
 pub fn run_table(rt: &HostRuntime, table: &str) -> io::Result<()> {
-    let alloc = rt.alloc();
     let Some((head, rows)) = table.trim_end().split_once(NEXT) else {
-        println!(rt; "a table without a row")?;
-        return Ok(());
+        return no_rows(rt);
     };
     for text in rows.split(NEXT) {
-        let name = text.lines().next().unwrap_or("");
-        let mut row = Row::new(alloc);
-        row.read(alloc, head)?;
-        row.read(alloc, text)?;
-        println!(rt; "{name}: {}", row.outcome(alloc)?)?;
-        for pace in PACES {
-            fail_each(rt, &row, pace, Device::Shelf, pace.pieces)?;
-            fail_each(rt, &row, pace, Device::Sink, pace.writes)?;
-        }
+        run_row(rt, &mut Row::new(rt.alloc()), head, text)?;
+    }
+    Ok(())
+}
+
+fn run_row<'a>(
+    rt: &HostRuntime,
+    row: &mut Row<'a>,
+    head: &'a str,
+    text: &'a str,
+) -> io::Result<()> {
+    print_row(rt, row, head, text)?;
+    for pace in PACES {
+        fail_each(rt, row, pace, Device::Shelf, pace.pieces)?;
+        fail_each(rt, row, pace, Device::Sink, pace.writes)?;
     }
     Ok(())
 }

@@ -58,7 +58,18 @@ const FAULTS: &str = "rows-each-call";
 /// What ends a row and begins the next.
 const NEXT: &str = "\n\n== row ";
 
-/// What came of a row of this head and this text.
+/// Prints what came of a row of this head and this text, which is put into it.
+fn print_row<'a>(
+    rt: &HostRuntime,
+    row: &mut Row<'a>,
+    head: &'a str,
+    text: &'a str,
+) -> io::Result<()> {
+    let name = text.lines().next().unwrap_or("");
+    let outcome = outcome(rt.alloc(), row, head, text)?;
+    println!(rt; "{name}: {outcome}")
+}
+
 fn outcome<'a>(
     alloc: Global,
     row: &mut Row<'a>,
@@ -70,17 +81,18 @@ fn outcome<'a>(
     row.outcome(alloc)
 }
 
+/// Prints that a table has no row.
+fn no_rows(rt: &HostRuntime) -> io::Result<()> {
+    println!(rt; "a table without a row")
+}
+
 /// Prints what came of each row of a table.
 fn run_table(rt: &HostRuntime, table: &str) -> io::Result<()> {
-    let alloc = rt.alloc();
     let Some((head, rows)) = table.trim_end().split_once(NEXT) else {
-        println!(rt; "a table without a row")?;
-        return Ok(());
+        return no_rows(rt);
     };
     for text in rows.split(NEXT) {
-        let name = text.lines().next().unwrap_or("");
-        let outcome = outcome(alloc, &mut Row::new(alloc), head, text)?;
-        println!(rt; "{name}: {outcome}")?;
+        print_row(rt, &mut Row::new(rt.alloc()), head, text)?;
     }
     Ok(())
 }
