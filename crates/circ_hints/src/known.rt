@@ -33,11 +33,13 @@ impl<'a> Known<'a> {
         end: usize,
     ) -> Result<Known<'a>, AllocError> {
         let mut known = Known::new(alloc, wanted);
-        if let Ok(theory) = Tokens::of(alloc, source.theory) {
-            known.add_before(alloc, &theory, theory.count())?;
+        match known.add_all(alloc, source, tokens, end) {
+            Ok(()) => Ok(known),
+            Err(fault) => {
+                drop(known);
+                Err(fault)
+            }
         }
-        known.add_before(alloc, tokens, end)?;
-        Ok(known)
     }
 
     /// Nothing.
@@ -56,6 +58,20 @@ impl<'a> Known<'a> {
     /// The name that so many were declared before.
     pub fn name(&self, number: u32) -> Option<&'a [u8]> {
         self.names.get_index(number as usize).copied()
+    }
+
+    /// Adds what the theory of a script declares, and then what the text does before a token.
+    fn add_all(
+        &mut self,
+        alloc: Global,
+        source: &Source<'a>,
+        tokens: &Tokens<'a>,
+        end: usize,
+    ) -> Result<(), AllocError> {
+        if let Ok(theory) = Tokens::of(alloc, source.theory) {
+            self.add_before(alloc, &theory, theory.count())?;
+        }
+        self.add_before(alloc, tokens, end)
     }
 
     /// Adds what the statements declare that end before a token, and the texts that they include.

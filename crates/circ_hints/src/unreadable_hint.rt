@@ -178,7 +178,7 @@ fn hidden_sort<'a>(
     sort: u32,
 ) -> Result<Finding<'a>, AllocError> {
     let part = part_of(source, tokens, number);
-    let sorts = Known::before(alloc, Wanted::Sorts, source, tokens, part.from)?;
+    let subject = name_of_sort(alloc, source, tokens, part, sort)?;
     let (place, says) = if is(tokens, part.from, b"cases") {
         let mark = Mark::at(part.nth(1), " is hidden; a case list is of a visible sort");
         (mark.place(tokens, source.bytes.len()), mark.says)
@@ -196,9 +196,21 @@ fn hidden_sort<'a>(
     Ok(Finding {
         place,
         names: false,
-        subject: sorts.name(sort).unwrap_or(b"this sort"),
+        subject,
         says,
     })
+}
+
+/// The name of a sort of this number that is declared before a part.
+fn name_of_sort<'a>(
+    alloc: Global,
+    source: &Source<'a>,
+    tokens: &Tokens<'a>,
+    part: Part,
+    sort: u32,
+) -> Result<&'a [u8], AllocError> {
+    let sorts = Known::before(alloc, Wanted::Sorts, source, tokens, part.from)?;
+    Ok(sorts.name(sort).unwrap_or(b"this sort"))
 }
 
 /// The part of a number.

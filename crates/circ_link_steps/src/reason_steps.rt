@@ -10,7 +10,7 @@ ghost use Rattle.circ_proof.specs.Link.{resolved_chain};
 ghost use Rattle.circ_expansion.specs.Pieces.{no_piece};
 ghost use Rattle.circ_expansion.specs.Expand.{around, cases_at, case_basis, stood};
 ghost use Rattle.circ_expansion.specs.Machine.{In_row, Begin_split, End_split, Give_reason};
-ghost use Rattle.circ_expansion.specs.Machine.{reason_step, task_step, all_uses};
+ghost use Rattle.circ_expansion.specs.Machine.{Add_part, reason_step, task_step, all_uses};
 ghost use Rattle.circ_uses.specs.Uses.{BuildsLast};
 ghost use Rattle.circ_uses.specs.Valuations.{by_of};
 ghost use Rattle.circ_tasks.specs.Tasks.{call_of, basis_of, background_in};
@@ -204,8 +204,7 @@ pub fn reasons_step<'a>(
         Err(fault) => return Err(Halt::Past(fault)),
     };
     let case = case(frame, &reasons, why, *constant, whole)?;
-    work.tasks.push(Task::AddPart)?;
-    work.tasks.push(Task::GiveReasons(Reasons {
+    let rest = Reasons {
         call: reasons.call,
         basis: reasons.basis,
         whys,
@@ -214,8 +213,26 @@ pub fn reasons_step<'a>(
         constants,
         left: reasons.left,
         right: reasons.right,
-    }))?;
-    work.tasks.push(Task::GiveReason(case))?;
+    };
+    give_reasons(frame, work, case, rest)?;
+    Ok(())
+}
+
+// A reason is next, then others, and then they are a part.
+fn give_reasons<'a>(
+    frame: &Frame<'a, '_>,
+    work: &mut Work<'a>,
+    first: Reason<'a>,
+    rest: Reasons<'a>,
+) -> Result<(), AllocError>
+    ensures tasks { OnOk result (jobs_of frame.now work.new ≡ reason_job frame.now first.entry ∷
+        reasons_job frame.now rest.entry ∷ Add_part ∷ jobs_of frame.now work.old) }
+    ensures values { work.new.values ≡ work.old.values }
+    ensures left { work.new.left ≡ work.old.left }
+{
+    work.tasks.push(Task::AddPart)?;
+    work.tasks.push(Task::GiveReasons(rest))?;
+    work.tasks.push(Task::GiveReason(first))?;
     Ok(())
 }
 

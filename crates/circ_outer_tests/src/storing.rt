@@ -30,12 +30,14 @@ fn path_in(rt: &HostRuntime, folder: &str, name: &str) -> io::Result<String> {
 }
 
 fn assert_holds(rt: &HostRuntime, path: &str, want: &str) -> Result<(), Fail> {
-    assert_eq!(rt; fs::read_to_string(rt, path)?.as_str(), want, "{path}");
+    let text = fs::read_to_string(rt, path)?;
+    assert_eq!(rt; text.as_str(), want, "{path}");
     Ok(())
 }
 
 fn assert_leads(rt: &HostRuntime, link: &str, want: &str) -> Result<(), Fail> {
-    assert_eq!(rt; fs::read_link(rt, link)?.as_str(), want, "{link}");
+    let target = fs::read_link(rt, link)?;
+    assert_eq!(rt; target.as_str(), want, "{link}");
     Ok(())
 }
 
