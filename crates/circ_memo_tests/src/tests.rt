@@ -133,10 +133,17 @@ fn is_spent(alloc: Global, theory: &Theory) -> Result<bool, TermFault> {
     if rules.len() != CONSTANTS as usize {
         return Ok(false);
     }
+    let first = constant(alloc, 0)?;
     let mut memo = Memo::new(alloc, theory, rules)?;
+    let spent = spends(&mut memo, &first);
+    drop(memo);
+    Ok(spent)
+}
+
+fn spends(memo: &mut Memo<'_>, term: &Term) -> bool {
     let mut budget = 1_000_000;
-    let normal = memo.normal(&constant(alloc, 0)?, &mut budget);
-    Ok(matches!(normal, Err(RewriteFault::Spent)) && budget == 0)
+    let normal = memo.normal(term, &mut budget);
+    matches!(normal, Err(RewriteFault::Spent)) && budget == 0
 }
 
 #[test]
