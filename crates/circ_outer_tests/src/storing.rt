@@ -2,6 +2,7 @@
 use crate::refusing::{Refused, RefusingFiles};
 use circ_outer::{HostShelf, OuterFault, Shelf};
 use std::os::unix::fs::{MetadataExt, PermissionsExt, symlink};
+use std::process::Abort;
 use std::test::Fail;
 use std::{env, fs, io, process};
 
@@ -15,7 +16,7 @@ fn new_folder(rt: &HostRuntime, name: &str) -> io::Result<String> {
 }
 
 /// How many files a folder has.
-fn files_in(rt: &HostRuntime, folder: &str) -> io::Result<usize> {
+fn files_in(rt: &(impl fs::Files + AllocGlobal + Clone), folder: &str) -> io::Result<usize> {
     let mut count = 0usize;
     for entry in fs::read_dir(rt, folder)? {
         let _ = entry?;
@@ -25,17 +26,25 @@ fn files_in(rt: &HostRuntime, folder: &str) -> io::Result<usize> {
 }
 
 /// The path of a name in a folder.
-fn path_in(rt: &HostRuntime, folder: &str, name: &str) -> io::Result<String> {
+fn path_in(rt: &impl AllocGlobal, folder: &str, name: &str) -> io::Result<String> {
     Ok(format!(in rt.alloc(); "{folder}/{name}")?)
 }
 
-fn assert_holds(rt: &HostRuntime, path: &str, want: &str) -> Result<(), Fail> {
+fn assert_holds(
+    rt: &(impl Abort + fs::Files + AllocGlobal + Clone),
+    path: &str,
+    want: &str,
+) -> Result<(), Fail> {
     let text = fs::read_to_string(rt, path)?;
     assert_eq!(rt; text.as_str(), want, "{path}");
     Ok(())
 }
 
-fn assert_leads(rt: &HostRuntime, link: &str, want: &str) -> Result<(), Fail> {
+fn assert_leads(
+    rt: &(impl Abort + fs::Files + AllocGlobal + Clone),
+    link: &str,
+    want: &str,
+) -> Result<(), Fail> {
     let target = fs::read_link(rt, link)?;
     assert_eq!(rt; target.as_str(), want, "{link}");
     Ok(())
@@ -50,7 +59,7 @@ fn a_file_is_replaced_alone(rt: HostRuntime) -> Result<(), Fail> {
 }
 
 fn assert_replaced(
-    rt: &HostRuntime,
+    rt: &(impl Abort + fs::Files + AllocGlobal + Clone),
     shelf: &mut HostShelf<HostRuntime>,
     folder: &str,
     path: &str,
@@ -77,7 +86,7 @@ fn links_lead_where_they_did(rt: HostRuntime) -> Result<(), Fail> {
 }
 
 /// Links a name to another name, which leads to a file that is not there, and a third to itself.
-fn make_links(rt: &HostRuntime, folder: &str) -> io::Result<()> {
+fn make_links(rt: &(impl fs::Files + AllocGlobal), folder: &str) -> io::Result<()> {
     let first = path_in(rt, folder, "first")?;
     symlink(rt, "p", first.as_str())?;
     let second = path_in(rt, folder, "second")?;
@@ -87,7 +96,7 @@ fn make_links(rt: &HostRuntime, folder: &str) -> io::Result<()> {
 }
 
 fn assert_links_lead(
-    rt: &HostRuntime,
+    rt: &(impl Abort + fs::Files + AllocGlobal + Clone),
     shelf: &mut HostShelf<HostRuntime>,
     folder: &str,
 ) -> Result<(), Fail> {
@@ -102,7 +111,7 @@ fn assert_links_lead(
 
 /// A text that is put behind two links is held by the file, and the links lead where they did.
 fn assert_put_behind(
-    rt: &HostRuntime,
+    rt: &(impl Abort + fs::Files + AllocGlobal + Clone),
     shelf: &mut HostShelf<HostRuntime>,
     folder: &str,
     text: &str,
@@ -117,7 +126,7 @@ fn assert_put_behind(
 }
 
 fn assert_not_put_around(
-    rt: &HostRuntime,
+    rt: &(impl Abort + fs::Files + AllocGlobal + Clone),
     shelf: &mut HostShelf<HostRuntime>,
     folder: &str,
 ) -> Result<(), Fail> {
@@ -130,16 +139,21 @@ fn assert_not_put_around(
 #[test]
 fn what_is_left_of_a_killed_put_is_no_hindrance(rt: HostRuntime) -> Result<(), Fail> {
     let folder = new_folder(&rt, "left")?;
-    let path = path_in(&rt, folder.as_str(), "p")?;
-    let left = path_in(&rt, folder.as_str(), ".circ-new-0")?;
-    assert_put_beside(&rt, folder.as_str(), path.as_str(), left.as_str())
+    let mut shelf = HostShelf::new(rt.clone()?);
+    assert_put_beside(&rt, &mut shelf, folder.as_str())
 }
 
-fn assert_put_beside(rt: &HostRuntime, folder: &str, path: &str, left: &str) -> Result<(), Fail> {
-    fs::write(rt, left, "left")?;
-    HostShelf::new(rt.clone()?).put(path, b"new")?;
-    assert_holds(rt, path, "new")?;
-    assert_holds(rt, left, "left")?;
+fn assert_put_beside(
+    rt: &(impl Abort + fs::Files + AllocGlobal + Clone),
+    shelf: &mut HostShelf<HostRuntime>,
+    folder: &str,
+) -> Result<(), Fail> {
+    let left = path_in(rt, folder, ".circ-new-0")?;
+    fs::write(rt, left.as_str(), "left")?;
+    let path = path_in(rt, folder, "p")?;
+    shelf.put(path.as_str(), b"new")?;
+    assert_holds(rt, path.as_str(), "new")?;
+    assert_holds(rt, left.as_str(), "left")?;
     assert_eq!(rt; files_in(rt, folder)?, 2);
     fs::remove_dir_all(rt, folder)?;
     Ok(())
@@ -155,27 +169,18 @@ fn a_put_that_fails_leaves_what_was_there(rt: HostRuntime) -> Result<(), Fail> {
         Refused::Sync,
         Refused::Rename,
     ] {
-        assert_refused(&rt, refused, folder.as_str(), path.as_str())?;
+        let files = RefusingFiles {
+            rt: rt.clone()?,
+            refused,
+        };
+        assert_put_fails(&rt, &mut HostShelf::new(files), folder.as_str(), path.as_str())?;
     }
     fs::remove_dir_all(&rt, folder.as_str())?;
     Ok(())
 }
 
-fn assert_refused(
-    rt: &HostRuntime,
-    refused: Refused,
-    folder: &str,
-    path: &str,
-) -> Result<(), Fail> {
-    let files = RefusingFiles {
-        rt: rt.clone()?,
-        refused,
-    };
-    assert_put_fails(rt, &mut HostShelf::new(files), folder, path)
-}
-
 fn assert_put_fails(
-    rt: &HostRuntime,
+    rt: &(impl Abort + fs::Files + AllocGlobal + Clone),
     shelf: &mut HostShelf<RefusingFiles>,
     folder: &str,
     path: &str,

@@ -93,7 +93,10 @@ fn shelves_give_what_was_put(rt: HostRuntime) -> Result<(), Fail> {
     assert_sure(&rt, &mut SureShelf::new(rt.alloc(), 3))
 }
 
-fn assert_memory(rt: &HostRuntime, shelf: &mut MemoryShelf) -> Result<(), Fail> {
+fn assert_memory(
+    rt: &(impl Abort + AllocGlobal),
+    shelf: &mut MemoryShelf,
+) -> Result<(), Fail> {
     shelf.add("kept", b"kept")?;
     assert_shelf(rt, shelf, "a", 0)?;
     assert!(rt; is_held(shelf.get("kept"), b"kept"));
@@ -102,7 +105,10 @@ fn assert_memory(rt: &HostRuntime, shelf: &mut MemoryShelf) -> Result<(), Fail> 
     Ok(())
 }
 
-fn assert_sure(rt: &HostRuntime, shelf: &mut SureShelf) -> Result<(), Fail> {
+fn assert_sure(
+    rt: &(impl Abort + AllocGlobal),
+    shelf: &mut SureShelf,
+) -> Result<(), Fail> {
     shelf.add("kept", b"kept")?;
     assert_shelf(rt, shelf, "a", 0)?;
     assert!(rt; is_held(shelf.get("kept"), b"kept"));
@@ -124,7 +130,7 @@ fn listed_calls_fail(rt: HostRuntime) -> Result<(), Fail> {
 }
 
 fn assert_failed(
-    rt: &HostRuntime,
+    rt: &(impl Abort + AllocGlobal),
     shelf: &mut MemoryShelf,
     call: u64,
     want: &[u64],
@@ -147,7 +153,7 @@ fn sinks_take_what_they_may(rt: HostRuntime) -> Result<(), Fail> {
 }
 
 fn assert_taken(
-    rt: &HostRuntime,
+    rt: &impl Abort,
     sink: &mut MemorySink,
     call: u64,
     want: &str,
@@ -160,7 +166,7 @@ fn assert_taken(
     Ok(())
 }
 
-fn assert_all_taken(rt: &HostRuntime, sink: &mut SureSink) -> Result<(), Fail> {
+fn assert_all_taken(rt: &impl Abort, sink: &mut SureSink) -> Result<(), Fail> {
     write_all(sink, TEXT.as_bytes())?;
     assert_eq!(rt; sink.bytes(), TEXT.as_bytes());
     assert_eq!(rt; sink.faults(), 0);
@@ -182,7 +188,7 @@ fn new_path(rt: &HostRuntime) -> io::Result<String> {
 }
 
 fn assert_real_files(
-    rt: &HostRuntime,
+    rt: &(impl Abort + fs::Files + AllocGlobal),
     shelf: &mut HostShelf<HostRuntime>,
     path: &str,
 ) -> Result<(), Fail> {
