@@ -10,13 +10,13 @@ use Rattle.circ_tasks.specs.Tasks.{call_of, background_in, jobs_of, layers_in, c
 use Rattle.circ_place_steps.proofs.AtPlaces.{paths_end, no_path, change_first, first_past}
 use Rattle.circ_expansion.proofs.Numbers.{got, got_none}
 use Rattle.circ_tasks.proofs.Stepping.{no_row, row_there, steps_same, halts_past}
-use Rattle.circ_place_steps.proofs.change_steps.first_step.Goals as goal
+use Rattle.circ_place_steps.proofs.change_steps.first_change.Goals as goal
 
 pub returns-then-not-ends_in_row : goal.returns-then-not-ends_in_row
 returns-then-not-ends_in_row c =
     let fr = c.args.frame.now in
     let f = background_in fr in
-    let x = c.args.changes in
+    let x = c.args.changes.now in
     let w = c.args.work.now in
     no_row (values_of w.values) (λ v us. occurrences_step (all_uses f) f (call_of fr x.call.value) (layers_in fr x.layers) x.new x.last
     (drop x.done (plain_paths x.paths.value.items)) (instance (by_of c.args.by.now) x.last) (jobs_of fr w) v us w.left)
@@ -25,7 +25,7 @@ returns-then-not-ends_in_row c =
 pub returns-in_default : goal.returns-in_default
 returns-in_default c =
     let fr = c.args.frame.now in
-    let x = c.args.changes in
+    let x = c.args.changes.now in
     let w = c.args.work.now in
     let ps = x.paths.value.items in
     let e : c.deref-2.result.now ≡ ps = c.deref-2.ensures.value ∙ ap (λ (v : Vec (Vec ℕ)). v.items) c.deref.ensures in
@@ -35,7 +35,7 @@ returns-in_default c =
 pub returns : goal.returns
 returns c =
     let fr = c.args.frame.now in
-    let x = c.args.changes in
+    let x = c.args.changes.now in
     let w = c.args.work.now in
     let ps = x.paths.value.items in
     let e : c.deref-2.result.now ≡ ps = c.deref-2.ensures.value ∙ ap (λ (v : Vec (Vec ℕ)). v.items) c.deref.ensures in
@@ -49,7 +49,7 @@ returns c =
 pub returns-in-Ok : goal.returns-in-Ok
 returns-in-Ok c =
     let fr = c.args.frame.now in
-    let x = c.args.changes in
+    let x = c.args.changes.now in
     let w = c.args.work.now in
     let ps = x.paths.value.items in
     let e : c.deref-2.result.now ≡ ps = c.deref-2.ensures.value ∙ ap (λ (v : Vec (Vec ℕ)). v.items) c.deref.ensures in

@@ -13,13 +13,13 @@ use Rattle.circ_place_steps.specs.declared.places.Ends.{Ends}
 use Rattle.circ_uses.specs.declared.uses.Held.{Held}
 use Rattle.circ_place_steps.proofs.AtPlaces.{place_end, place_past, place_ends_past, place_on}
 use Rattle.circ_uses.proofs.Fronting.{entries_cut}
-use Rattle.circ_place_steps.proofs.place_steps.place_step.Goals as goal
+use Rattle.circ_place_steps.proofs.place_steps.step_at.Goals as goal
 
 pub returns-in_default : goal.returns-in_default
 returns-in_default c =
     let fr = c.args.frame.now in
     let P : Option (Cut Held) → Type 0 = λ o. IsCut (front c.deref.result.now.entries) o in
-    place_end fr c.args.call.value c.args.term.now c.args.arg (layers_of fr.theory.now (front c.args.layers.now)) c.args.work.now
+    place_end fr c.args.call.now.value c.args.term.now c.args.arg (layers_of fr.theory.now (front c.args.layers.now)) c.args.work.now
     (ap (entries_of fr.theory.now) (ap (λ (z : Call). front z.entries) (sym c.deref.ensures) ∙ subst P c.in_default.is c.in_ok-entry.ensures))
 
 pub returns-in-Err : goal.returns-in-Err
@@ -29,7 +29,7 @@ returns-in-Err c =
     let x = c.in-Some.entry in
     let e = held_by th x.last.value in
     let cs = entries_of th (front x.rest) in
-    let d = c.args.call.value in
+    let d = c.args.call.now.value in
     let C : Option (Cut Held) → Type 0 = λ o. IsCut (front c.deref.result.now.entries) o in
     let h : (call_of fr d).entries ≡ e ∷ cs =
     entries_cut th (front d.entries) x.last (front x.rest)
@@ -46,7 +46,7 @@ returns-in-Err-ends c =
     let x = c.in-Some.entry in
     let e = held_by th x.last.value in
     let cs = entries_of th (front x.rest) in
-    let d = c.args.call.value in
+    let d = c.args.call.now.value in
     let xs = layers_of th (front c.args.layers.now) in
     let C : Option (Cut Held) → Type 0 = λ o. IsCut (front c.deref.result.now.entries) o in
     let h : (call_of fr d).entries ≡ e ∷ cs =
@@ -69,7 +69,7 @@ returns c =
     let x = c.in-Some.entry in
     let e = held_by th x.last.value in
     let cs = entries_of th (front x.rest) in
-    let d = c.args.call.value in
+    let d = c.args.call.now.value in
     let t = c.args.term.now in
     let xs = layers_of th (front c.args.layers.now) in
     let C : Option (Cut Held) → Type 0 = λ o. IsCut (front c.deref.result.now.entries) o in

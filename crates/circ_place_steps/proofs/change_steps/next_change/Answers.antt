@@ -8,13 +8,13 @@ use Rattle.circ_tasks.specs.Tasks.{call_of, background_in, jobs_of, layers_in, c
 use Rattle.circ_place_steps.proofs.AtPlaces.{paths_end, no_path, change_first}
 use Rattle.circ_expansion.proofs.Numbers.{got, got_none}
 use Rattle.circ_tasks.proofs.Stepping.{no_row, row_there, steps_same}
-use Rattle.circ_place_steps.proofs.change_steps.changes_step.Goals as goal
+use Rattle.circ_place_steps.proofs.change_steps.next_change.Goals as goal
 
 pub returns-then-not-ends_in_row : goal.returns-then-not-ends_in_row
 returns-then-not-ends_in_row c =
     let fr = c.args.frame.now in
     let f = background_in fr in
-    let x = c.args.changes in
+    let x = c.args.changes.now in
     let w = c.args.work.now in
     no_row (values_of w.values) (λ v us. occurrences_step (all_uses f) f (call_of fr x.call.value) (layers_in fr x.layers) x.new x.last
     (drop x.done (plain_paths x.paths.value.items)) c.args.here (jobs_of fr w) v us w.left)
@@ -23,7 +23,7 @@ returns-then-not-ends_in_row c =
 pub returns-in_default : goal.returns-in_default
 returns-in_default c =
     let fr = c.args.frame.now in
-    let x = c.args.changes in
+    let x = c.args.changes.now in
     let w = c.args.work.now in
     let ps = x.paths.value.items in
     let e : c.deref-2.result.now ≡ ps = c.deref-2.ensures.value ∙ ap (λ (v : Vec (Vec ℕ)). v.items) c.deref.ensures in
@@ -33,7 +33,7 @@ returns-in_default c =
 pub returns : goal.returns
 returns c =
     let fr = c.args.frame.now in
-    let x = c.args.changes in
+    let x = c.args.changes.now in
     let w = c.args.work.now in
     let ps = x.paths.value.items in
     let e : c.deref-2.result.now ≡ ps = c.deref-2.ensures.value ∙ ap (λ (v : Vec (Vec ℕ)). v.items) c.deref.ensures in
