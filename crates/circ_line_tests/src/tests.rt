@@ -27,14 +27,21 @@ const LINES: &[&[u8]] = &[
     b"end",
 ];
 
+fn is_text_of(alloc: Global, line: &Line, text: &[u8]) -> Result<bool, AllocError> {
+    let mut out = Vec::new(alloc);
+    write_line(line, &mut out)?;
+    Ok(out.as_slice() == text)
+}
+
 // Whether the text is that of a line, which is written as the same text.
 fn is_written_again(alloc: Global, text: &[u8]) -> Result<bool, AllocError> {
-    let mut out = Vec::new(alloc);
-    match read_line(alloc, text)? {
-        Some(line) => write_line(&line, &mut out)?,
-        None => return Ok(false),
-    }
-    Ok(out.as_slice() == text)
+    let line = read_line(alloc, text)?;
+    let is_same = match &line {
+        Some(line) => is_text_of(alloc, line, text),
+        None => Ok(false),
+    };
+    drop(line);
+    is_same
 }
 
 fn are_written_again(alloc: Global) -> Result<bool, AllocError> {
@@ -51,16 +58,21 @@ fn lines(rt: HostRuntime) {
     assert!(rt; are_written_again(rt.alloc()) == Ok(true));
 }
 
+fn is_text_of_lent(alloc: Global, line: LentLine<'_>, text: &[u8]) -> Result<bool, AllocError> {
+    let mut out = Vec::new(alloc);
+    write_lent_line(line, &mut out)?;
+    Ok(out.as_slice() == text)
+}
+
 // Whether a line of a lent link has the same text.
 fn is_lent(alloc: Global, text: &[u8]) -> Result<bool, AllocError> {
-    let mut out = Vec::new(alloc);
-    match read_line(alloc, text)? {
-        Some(Line::Left { link }) => {
-            write_lent_line(LentLine::Left { link: &link }, &mut out)?;
-            Ok(out.as_slice() == text)
-        }
+    let line = read_line(alloc, text)?;
+    let is_same = match &line {
+        Some(Line::Left { link }) => is_text_of_lent(alloc, LentLine::Left { link }, text),
         _ => Ok(false),
-    }
+    };
+    drop(line);
+    is_same
 }
 
 #[test]
