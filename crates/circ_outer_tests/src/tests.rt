@@ -77,13 +77,22 @@ fn assert_shelf<S: Shelf>(
 ) -> Result<(), Fail> {
     assert_eq!(rt; shelf.begin("absent"), Err(OuterFault::Failed));
     assert_eq!(rt; shelf.faults(), faults);
-    shelf.put(name, TEXT.as_bytes())?;
-    let bytes = take_all(rt.alloc(), shelf, name)?;
-    assert_eq!(rt; bytes.as_slice(), TEXT.as_bytes());
-    shelf.put(name, b"new")?;
-    let bytes = take_all(rt.alloc(), shelf, name)?;
-    assert_eq!(rt; bytes.as_slice(), b"new".as_slice());
+    assert_gives(rt, shelf, name, TEXT.as_bytes())?;
+    assert_gives(rt, shelf, name, b"new")?;
     assert_eq!(rt; shelf.faults(), faults);
+    Ok(())
+}
+
+/// What is put is taken again.
+fn assert_gives<S: Shelf>(
+    rt: &(impl Abort + AllocGlobal),
+    shelf: &mut S,
+    name: &str,
+    bytes: &[u8],
+) -> Result<(), Fail> {
+    shelf.put(name, bytes)?;
+    let taken = take_all(rt.alloc(), shelf, name)?;
+    assert_eq!(rt; taken.as_slice(), bytes);
     Ok(())
 }
 
