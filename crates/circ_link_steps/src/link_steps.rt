@@ -207,7 +207,8 @@ fn content_step<'a>(
     work.left -= 1;
     let new = named(frame.table, new)?;
     match more.call.by.apply(frame.alloc, &new) {
-        Ok(_) => {
+        Ok(made) => {
+            drop(made);
             let row = content_row(frame, &more.call, term, op, path, new)?;
             write(frame, work, more, row)
         }
@@ -256,7 +257,8 @@ fn write<'a>(
         work.old.left) work.new result }
 {
     match frame.around(&more.call, &more.term) {
-        Ok(_) => {
+        Ok(whole) => {
+            drop(whole);
             if work.values.add_row(row)? {
                 work.tasks.push(Task::Links(more))?;
                 return Ok(());
