@@ -14,6 +14,12 @@ pub(crate) fn name_of(cause: &Cause) -> &'static str {
         Cause::NoParse => "no parse",
         Cause::Ambiguous { .. } => "ambiguous",
         Cause::Twice { .. } => "twice",
+        _ => name_of_others(cause),
+    }
+}
+
+fn name_of_others(cause: &Cause) -> &'static str {
+    match cause {
         Cause::IllSorted { .. } => "ill sorted",
         Cause::NotLinear { .. } => "not linear",
         Cause::HoleCount { .. } => "holes",
@@ -23,7 +29,7 @@ pub(crate) fn name_of(cause: &Cause) -> &'static str {
         Cause::Limit { .. } | Cause::LineLimit => "limit",
         Cause::NoGoal => "no goal",
         Cause::Unclosed => "unclosed",
-        Cause::Line => "form",
+        _ => "form",
     }
 }
 

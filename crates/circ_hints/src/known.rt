@@ -1,5 +1,5 @@
 //! What the statements before a place declare, by their words alone.
-use crate::parts::{Part, first, is, next};
+use crate::parts::{Part, first, is, is_either, next};
 use crate::unreadable_hint::Source;
 use circ_lexer::Tokens;
 use circ_lib::lookup;
@@ -127,13 +127,13 @@ impl<'a> Known<'a> {
     fn declare(&mut self, tokens: &Tokens<'a>, part: Part) -> Result<(), AllocError> {
         let end = first(tokens, part.from, part.to, b":").unwrap_or(part.to);
         match self.wanted {
-            Wanted::Sorts if is_one_of(tokens, part.from, b"sort", b"sorts") => {
+            Wanted::Sorts if is_either(tokens, part.from, b"sort", b"sorts") => {
                 add_names(&mut self.names, tokens, part.nth(1), end)
             }
-            Wanted::Words if is_one_of(tokens, part.from, b"var", b"vars") => {
+            Wanted::Words if is_either(tokens, part.from, b"var", b"vars") => {
                 add_names(&mut self.names, tokens, part.nth(1), end)
             }
-            Wanted::Words if is_one_of(tokens, part.from, b"op", b"ops") => {
+            Wanted::Words if is_either(tokens, part.from, b"op", b"ops") => {
                 add_forms(&mut self.names, tokens, part.nth(1), end)
             }
             _ => Ok(()),
@@ -165,11 +165,6 @@ fn part_between(from: usize, to: usize) -> Part {
     }
 }
 
-/// Whether the token of a number is one of two words.
-fn is_one_of(tokens: &Tokens<'_>, number: usize, one: &[u8], other: &[u8]) -> bool {
-    is(tokens, number, one) || is(tokens, number, other)
-}
-
 /// Whether a statement that begins with a token ends at another one.
 fn ends_statement(tokens: &Tokens<'_>, number: usize, from: usize) -> bool {
     is(tokens, number, b".") || (from == 0 && is(tokens, number, b"is"))
@@ -177,10 +172,8 @@ fn ends_statement(tokens: &Tokens<'_>, number: usize, from: usize) -> bool {
 
 /// The text of the library that a statement includes.
 fn included(tokens: &Tokens<'_>, part: Part) -> Option<&'static [u8]> {
-    let is_inclusion = is(tokens, part.from, b"inc")
-        || is(tokens, part.from, b"including")
-        || is(tokens, part.from, b"pr")
-        || is(tokens, part.from, b"protecting");
+    let is_inclusion = is_either(tokens, part.from, b"inc", b"including")
+        || is_either(tokens, part.from, b"pr", b"protecting");
     if !is_inclusion {
         return None;
     }

@@ -43,6 +43,16 @@ pub(crate) fn is(tokens: &Tokens<'_>, number: usize, word: &[u8]) -> bool {
     }
 }
 
+/// Whether the token of a number is one of two words.
+pub(crate) fn is_either(tokens: &Tokens<'_>, number: usize, one: &[u8], other: &[u8]) -> bool {
+    is(tokens, number, one) || is(tokens, number, other)
+}
+
+/// Whether a word is this text.
+pub(crate) fn is_same(word: &[u8], text: &[u8]) -> bool {
+    word == text
+}
+
 /// The first token of this word in a range.
 pub(crate) fn first(tokens: &Tokens<'_>, from: usize, to: usize, word: &[u8]) -> Option<usize> {
     for number in from..to {

@@ -1,7 +1,7 @@
 //! Where a statement of a theory leaves its form, and what was expected there.
 use crate::marks::Mark;
 use crate::openings::{begins_statement, begins_work, says_of_conditions};
-use crate::parts::{Part, first, is, next, outside, without_open};
+use crate::parts::{Part, first, is, is_either, is_same, next, outside, without_open};
 use crate::signatures::{operator, variables};
 use circ_lexer::Tokens;
 use circ_statement::is_name;
@@ -143,20 +143,35 @@ fn begins_line(tokens: &Tokens<'_>, source: &[u8], number: usize) -> bool {
 
 /// The mark of a statement, by its first word.
 fn by_word(tokens: &Tokens<'_>, part: Part) -> Mark {
-    match tokens.token(part.from) {
-        Some(b"sort" | b"sorts") => list_of_names(tokens, part),
-        Some(b"op" | b"ops") => operator(tokens, part),
-        Some(b"var" | b"vars") => variables(tokens, part),
-        Some(b"eq") => equation(tokens, part),
-        Some(b"ceq") => conditional(
-            tokens,
-            part,
-            "a conditional equation is `ceq TERM = TERM if TERM = TERM /\\ .. .`",
-        ),
-        Some(b"cases") => cases(tokens, part),
-        _ => one_name(tokens, part),
+    if is_either(tokens, part.from, b"sort", b"sorts") {
+        return list_of_names(tokens, part);
     }
+    if is_either(tokens, part.from, b"op", b"ops") {
+        return operator(tokens, part);
+    }
+    if is_either(tokens, part.from, b"var", b"vars") {
+        return variables(tokens, part);
+    }
+    by_other_word(tokens, part)
 }
+
+/// The mark of a statement that declares no names by itself.
+fn by_other_word(tokens: &Tokens<'_>, part: Part) -> Mark {
+    if is(tokens, part.from, b"eq") {
+        return equation(tokens, part);
+    }
+    if is(tokens, part.from, b"ceq") {
+        return conditional(tokens, part, CONDITIONAL_EQUATION);
+    }
+    if is(tokens, part.from, b"cases") {
+        return cases(tokens, part);
+    }
+    one_name(tokens, part)
+}
+
+/// The form of an equation with conditions.
+const CONDITIONAL_EQUATION: &str =
+    "a conditional equation is `ceq TERM = TERM if TERM = TERM /\\ .. .`";
 
 /// The mark of a statement that takes names.
 fn list_of_names(tokens: &Tokens<'_>, part: Part) -> Mark {
@@ -220,10 +235,10 @@ fn glued_sign(tokens: &Tokens<'_>, part: Part) -> Option<Mark> {
 
 /// Whether a token with a `=` in it is a common word of an operator.
 fn is_order(token: &[u8]) -> bool {
-    match token {
-        b"<=" | b"=<" | b">=" | b"=>" => true,
-        _ => false,
-    }
+    is_same(token, b"<=")
+        || is_same(token, b"=<")
+        || is_same(token, b">=")
+        || is_same(token, b"=>")
 }
 
 /// The mark of an equation or a goal with conditions, which has this form.

@@ -4,7 +4,7 @@ use crate::drawing::rest_from;
 use crate::known::{Known, Wanted};
 use crate::marks::Mark;
 use crate::openings::{begins_statement, begins_work, says_of_conditions};
-use crate::parts::{Part, is, next};
+use crate::parts::{Part, is, is_same, next};
 use crate::prefixes::unread_behind;
 use crate::unreadable_hint::Source;
 use circ_lexer::Tokens;
@@ -136,10 +136,6 @@ fn is_of_any_term(word: &[u8]) -> bool {
 /// Whether a token may stand between conditions.
 fn is_of_conditions(word: &[u8]) -> bool {
     is_same(word, b"if") || is_same(word, b"/\\")
-}
-
-fn is_same(word: &[u8], text: &[u8]) -> bool {
-    word == text
 }
 
 fn is_one_of(word: &[u8], signs: &[u8]) -> bool {

@@ -36,7 +36,7 @@ fn assert_holds(
     want: &str,
 ) -> Result<(), Fail> {
     let text = fs::read_to_string(rt, path)?;
-    assert_eq!(rt; text.as_str(), want, "{path}");
+    assert!(rt; text.as_str() == want, "{path}");
     Ok(())
 }
 
@@ -46,7 +46,7 @@ fn assert_leads(
     want: &str,
 ) -> Result<(), Fail> {
     let target = fs::read_link(rt, link)?;
-    assert_eq!(rt; target.as_str(), want, "{link}");
+    assert!(rt; target.as_str() == want, "{link}");
     Ok(())
 }
 
@@ -69,9 +69,18 @@ fn assert_replaced(
     fs::set_permissions(rt, path, fs::Permissions::from_mode(0o640))?;
     shelf.put(path, b"new")?;
     assert_holds(rt, path, "new")?;
-    assert_eq!(rt; fs::metadata(rt, path)?.mode() & 0o7777, 0o640);
-    assert_eq!(rt; files_in(rt, folder)?, 1);
-    assert_eq!(rt; shelf.faults(), 0);
+    assert!(rt; fs::metadata(rt, path)?.mode() & 0o7777 == 0o640);
+    assert_alone(rt, shelf, folder)
+}
+
+/// A file is alone in its folder, and no call failed.
+fn assert_alone(
+    rt: &(impl Abort + fs::Files + AllocGlobal + Clone),
+    shelf: &HostShelf<HostRuntime>,
+    folder: &str,
+) -> Result<(), Fail> {
+    assert!(rt; files_in(rt, folder)? == 1);
+    assert!(rt; shelf.faults() == 0);
     assert!(rt; shelf.failed_name().is_none());
     fs::remove_dir_all(rt, folder)?;
     Ok(())
@@ -102,7 +111,7 @@ fn assert_links_lead(
 ) -> Result<(), Fail> {
     for text in ["old", "new"] {
         assert_put_behind(rt, shelf, folder, text)?;
-        assert_eq!(rt; files_in(rt, folder)?, 4);
+        assert!(rt; files_in(rt, folder)? == 4);
     }
     assert_not_put_around(rt, shelf, folder)?;
     fs::remove_dir_all(rt, folder)?;
@@ -131,7 +140,7 @@ fn assert_not_put_around(
     folder: &str,
 ) -> Result<(), Fail> {
     let around = path_in(rt, folder, "around")?;
-    assert_eq!(rt; shelf.put(around.as_str(), b"new"), Err(OuterFault::Failed));
+    assert!(rt; shelf.put(around.as_str(), b"new") == Err(OuterFault::Failed));
     assert!(rt; shelf.failed_name() == Some(around.as_bytes()));
     Ok(())
 }
@@ -154,7 +163,7 @@ fn assert_put_beside(
     shelf.put(path.as_str(), b"new")?;
     assert_holds(rt, path.as_str(), "new")?;
     assert_holds(rt, left.as_str(), "left")?;
-    assert_eq!(rt; files_in(rt, folder)?, 2);
+    assert!(rt; files_in(rt, folder)? == 2);
     fs::remove_dir_all(rt, folder)?;
     Ok(())
 }
@@ -185,13 +194,22 @@ fn assert_put_fails(
     folder: &str,
     path: &str,
 ) -> Result<(), Fail> {
-    assert_eq!(rt; shelf.put(path, b"new"), Err(OuterFault::Failed));
-    assert_eq!(rt; files_in(rt, folder)?, 0);
+    assert!(rt; shelf.put(path, b"new") == Err(OuterFault::Failed));
+    assert!(rt; files_in(rt, folder)? == 0);
     fs::write(rt, path, "old")?;
-    assert_eq!(rt; shelf.put(path, b"new"), Err(OuterFault::Failed));
+    assert_old_is_left(rt, shelf, folder, path)
+}
+
+fn assert_old_is_left(
+    rt: &(impl Abort + fs::Files + AllocGlobal + Clone),
+    shelf: &mut HostShelf<RefusingFiles>,
+    folder: &str,
+    path: &str,
+) -> Result<(), Fail> {
+    assert!(rt; shelf.put(path, b"new") == Err(OuterFault::Failed));
     assert_holds(rt, path, "old")?;
-    assert_eq!(rt; files_in(rt, folder)?, 1);
-    assert_eq!(rt; shelf.faults(), 2);
+    assert!(rt; files_in(rt, folder)? == 1);
+    assert!(rt; shelf.faults() == 2);
     fs::remove_file(rt, path)?;
     Ok(())
 }

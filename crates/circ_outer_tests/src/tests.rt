@@ -75,11 +75,11 @@ fn assert_shelf<S: Shelf>(
     name: &str,
     faults: u64,
 ) -> Result<(), Fail> {
-    assert_eq!(rt; shelf.begin("absent"), Err(OuterFault::Failed));
-    assert_eq!(rt; shelf.faults(), faults);
+    assert!(rt; shelf.begin("absent") == Err(OuterFault::Failed));
+    assert!(rt; shelf.faults() == faults);
     assert_gives(rt, shelf, name, TEXT.as_bytes())?;
     assert_gives(rt, shelf, name, b"new")?;
-    assert_eq!(rt; shelf.faults(), faults);
+    assert!(rt; shelf.faults() == faults);
     Ok(())
 }
 
@@ -92,7 +92,7 @@ fn assert_gives<S: Shelf>(
 ) -> Result<(), Fail> {
     shelf.put(name, bytes)?;
     let taken = take_all(rt.alloc(), shelf, name)?;
-    assert_eq!(rt; taken.as_slice(), bytes);
+    assert!(rt; taken.as_slice() == bytes);
     Ok(())
 }
 
@@ -147,9 +147,9 @@ fn assert_failed(
     shelf.add("a", TEXT.as_bytes())?;
     shelf.fail_at(call)?;
     let failed = failed_calls(rt.alloc(), shelf)?;
-    assert_eq!(rt; failed.as_slice(), want, "call {call}");
-    assert_eq!(rt; shelf.faults(), want.len() as u64, "call {call}");
-    assert_eq!(rt; shelf.get("b").is_some(), call != 3, "call {call}");
+    let are_counted = shelf.faults() == want.len() as u64;
+    let is_put = shelf.get("b").is_some() == (call != 3);
+    assert!(rt; failed.as_slice() == want && are_counted && is_put, "call {call}");
     Ok(())
 }
 
@@ -168,17 +168,17 @@ fn assert_taken(
     want: &str,
 ) -> Result<(), Fail> {
     sink.fail_at(call)?;
-    let written = write_all(sink, TEXT.as_bytes());
-    assert_eq!(rt; written.is_ok(), call == 4, "call {call}");
-    assert_eq!(rt; sink.faults() == 0, call == 4, "call {call}");
-    assert_eq!(rt; sink.bytes(), want.as_bytes(), "call {call}");
+    let is_written = write_all(sink, TEXT.as_bytes()).is_ok();
+    let is_faultless = sink.faults() == 0;
+    assert!(rt; is_written == (call == 4) && is_faultless == is_written, "call {call}");
+    assert!(rt; sink.bytes() == want.as_bytes(), "call {call}");
     Ok(())
 }
 
 fn assert_all_taken(rt: &impl Abort, sink: &mut SureSink) -> Result<(), Fail> {
     write_all(sink, TEXT.as_bytes())?;
-    assert_eq!(rt; sink.bytes(), TEXT.as_bytes());
-    assert_eq!(rt; sink.faults(), 0);
+    assert!(rt; sink.bytes() == TEXT.as_bytes());
+    assert!(rt; sink.faults() == 0);
     Ok(())
 }
 
@@ -205,9 +205,9 @@ fn assert_real_files(
     fs::remove_file(rt, path)?;
     // A folder is no file, to read or to write.
     assert!(rt; take_all(rt.alloc(), shelf, "/").is_err());
-    assert_eq!(rt; shelf.faults(), 2);
-    assert_eq!(rt; shelf.put("/", b"new"), Err(OuterFault::Failed));
-    assert_eq!(rt; shelf.faults(), 3);
+    assert!(rt; shelf.faults() == 2);
+    assert!(rt; shelf.put("/", b"new") == Err(OuterFault::Failed));
+    assert!(rt; shelf.faults() == 3);
     Ok(())
 }
 
@@ -215,16 +215,16 @@ fn assert_real_files(
 fn standard_output_takes_bytes(rt: HostRuntime) -> Result<(), Fail> {
     let mut sink = HostSink::new(rt.clone()?);
     write_all(&mut sink, b"written by a test\n")?;
-    assert_eq!(rt; sink.faults(), 0);
+    assert!(rt; sink.faults() == 0);
     Ok(())
 }
 
 #[test]
 fn closed_output_is_a_fault(rt: HostRuntime) -> Result<(), Fail> {
     let mut sink = HostSink::new(ClosedOutput);
-    assert_eq!(rt; write_all(&mut sink, b"lost"), Err(OuterFault::Failed));
-    assert_eq!(rt; sink.faults(), 1);
-    assert_eq!(rt; write_all(&mut sink, b""), Ok(()));
-    assert_eq!(rt; sink.faults(), 1);
+    assert!(rt; write_all(&mut sink, b"lost") == Err(OuterFault::Failed));
+    assert!(rt; sink.faults() == 1);
+    assert!(rt; write_all(&mut sink, b"") == Ok(()));
+    assert!(rt; sink.faults() == 1);
     Ok(())
 }
