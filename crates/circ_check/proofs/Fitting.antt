@@ -14,7 +14,7 @@ use Rattle.circ_proof.specs.Plain.{LinkOf}
 use Rattle.circ_proof.specs.Runs.{Runs}
 use Rattle.circ_proof.specs.Rules.{ProofStep, Simplify, Reduce, Derive, Cases, Done}
 use Rattle.circ_proof.specs.Certified.{due}
-use Rattle.circ_proof.specs.Proof.{GoalNames, AreLinksFor, IsStepFor, step_limit}
+use Rattle.circ_proof.specs.Proof.{GoalNames, AreLinksFor, IsStepFor, IsConditionFor, IsNameFor, step_limit}
 use Rattle.circ_proof.specs.Parts.{Part, Head, Certificate, Goals, Step}
 use Rattle.circ_proof.specs.Fitting.{AreGoalsFor, FitSteps, FitBlocks, FitRest, Fit}
 use Rattle.circ_proof.proofs.FewPlaces.{few_due}
@@ -22,8 +22,7 @@ use Rattle.circ_proof.proofs.Sorted.{sorted_none, sorted_append}
 use Rattle.circ_soundness.proofs.Blocks.{names_sorted}
 use Rattle.circ_check.specs.Checking.{Checking, TakesCertificate, TakesGoals, TakesStep, TakesPart, StandFor, nothing_taken}
 use Rattle.circ_check.specs.Ready.{IsPartReady}
-use Rattle.circ_check.specs.Knowing.{AreKnown, marks_of}
-use Rattle.circ_check.proofs.Marks.{marks_known}
+use Rattle.circ_check.specs.Naming.{IsNameWithin, AreNamedGoals}
 
 -- ---- goals and steps, where m steps were before
 
@@ -130,6 +129,21 @@ goals_sorted : (th : Theory) (ts : List Tree) → AllByRecursion (IsWellSorted t
     → AreSortedGoals th gs
 goals_sorted th ts a gs ns f = subst (AreSortedGoals th) (sym f.goals_are) (names_sorted th ts a ns f.names_fit)
 
+-- ---- names
+
+conditions_within : (th : Theory) (ts : List Tree) (ns : List (ℕ × ℕ)) → AllByRecursion (IsConditionFor th ts) ns
+    → AllByRecursion (λ n. (n.0 < length ts) × (n.1 < length ts)) ns
+conditions_within th ts [] a = tt
+conditions_within th ts (n ∷ ns) a = ((a.0.left, a.0.right), conditions_within th ts ns a.1)
+
+names_within : (th : Theory) (ts : List Tree) (ns : List GoalNames) → AllByRecursion (IsNameFor th ts) ns → AllByRecursion (IsNameWithin (length ts)) ns
+names_within th ts [] a = tt
+names_within th ts (n ∷ ns) a =
+    (record { left = a.0.left; right = a.0.right; conds = conditions_within th ts n.conds a.0.conds }, names_within th ts ns a.1)
+
+goals_named : (th : Theory) (ts : List Tree) (gs : List Goal) (ns : List GoalNames) → AreGoalsFor th ts gs ns → AreNamedGoals ts gs ns
+goals_named th ts gs ns f = record { within = names_within th ts ns f.names_fit; goals_are = f.goals_are }
+
 record GoalsKept (th : Theory) (ts : List Tree) (ps : List Place) (c d : Checking) : Type 0 where
   knows : Knows th ts ps d
   count : d.tally.count ≡ c.tally.count
@@ -169,7 +183,7 @@ module _ (th : Theory) (ok : IsWellFormed th) (ts : List Tree) (ps : List Place)
   later_ready m [] (Goals gs ns) c d f k e r = subst (λ y. IsPartReady th y (Goals gs ns)) r (record {
     sorted = (ready_with th ts ps c k).0;
     set = (ready_with th ts ps c k).1;
-    part = (k.goals, goals_sorted th ts k.sorted gs ns f.0, subst (AreKnown (marks_of ns)) (sym f.0.goals_are) (marks_known ts ns));
+    part = (k.goals, goals_sorted th ts k.sorted gs ns f.0, subst (λ us. AreNamedGoals us gs ns) (sym k.table) (goals_named th ts gs ns f.0));
   })
   later_ready m [] (Step s) c d f k e r = subst (λ y. IsPartReady th y (Step s)) r (record {
     sorted = (ready_with th ts ps c k).0;

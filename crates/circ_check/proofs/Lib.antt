@@ -1,7 +1,8 @@
-pub mod Marks
-pub mod Placed
 pub mod Standing
 pub mod Behaving
+mod Marks
+mod Named
 pub mod Fitting
 pub mod Finding
+mod Numbered
 pub mod Watching

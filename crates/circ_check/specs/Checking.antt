@@ -38,6 +38,11 @@ with_one t = record { count = t.count + 1; failed = t.failed }
 abbrev pub with_failure : Tally → Tally
 with_failure t = record { count = t.count + 1; failed = option_or t.failed (Some (t.count + 1)) }
 
+-- one more, which holds or fails
+abbrev pub counted : (holds : Bool) → Tally → Tally
+counted true t = with_one t
+counted false t = with_failure t
+
 abbrev pub nothing_taken : Checking
 nothing_taken = record {
   table = [];

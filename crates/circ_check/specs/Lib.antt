@@ -1,6 +1,6 @@
 pub mod Deciding
 pub mod Knowing
+pub mod Naming
 pub mod Checking
 pub mod Ready
-pub mod Placing
 pub mod Watching

@@ -1,38 +1,41 @@
 //! A checker that takes the parts of a proof one after the other.
-ghost use Rattle.std.specs.Prelude.{◌≡◌, ◌<◌, ◌+◌, ◌^◌, ◌++◌, ◌∷◌, [], ℕ, List, Some, None, false};
+ghost use Rattle.std.specs.Prelude.{◌≡◌, ◌≤◌, ◌<◌, ◌+◌, ◌^◌, ◌++◌, ◌∷◌, [], ℕ, List, Some, None, true, false};
 ghost use Rattle.std.specs.Prelude.{length, map, take};
-ghost use Rattle.std.specs.Prelude.{IfOk, OnOk, IsErr};
+ghost use Rattle.std.specs.Prelude.{OnOk, IsErr};
 ghost use Rattle.std.specs.List.{AllByRecursion};
 ghost use Rattle.std.specs.Result.{OnErr};
-ghost use Rattle.circ_theory.specs.Signature.{IsWellSorted};
+ghost use Rattle.circ_term.specs.Growing.{Grows};
 ghost use Rattle.circ_theory.specs.Theory.{Theory};
-ghost use Rattle.circ_special.specs.Special.{IsSet};
-ghost use Rattle.circ_proof.specs.Rules.{state as state_with, Derive, AllOfStep};
+ghost use Rattle.circ_theory.specs.declared.parts.Goal.{Goal as PlainGoal};
 ghost use Rattle.circ_proof.specs.Proof.{GoalNames as PlainNames, Proof, ProofFor};
 ghost use Rattle.circ_proof.specs.Parts.{Part as PlainPart, parts_of};
-ghost use Rattle.circ_proof.specs.Parts.{Certificate, Goals, Step as StepPart};
+ghost use Rattle.circ_proof.specs.Parts.{Head, Certificate, Goals, Step as StepPart};
 ghost use Rattle.circ_proof.specs.Accepted.{Derives, FirstFail};
-ghost use Rattle.circ_proof.specs.PlainProof.{plain_state, plain_step, plain_names};
-ghost use Rattle.circ_table.specs.Part.{plain_part};
 ghost use Rattle.circ_proof.specs.Goals.{AreSortedGoals};
-ghost use Rattle.circ_proof.specs.Link.{AllOfLinks};
 ghost use Rattle.circ_proof.specs.Plain.{plain_links};
+ghost use Rattle.circ_proof.specs.PlainProof.{plain_step, plain_names};
+ghost use Rattle.circ_table.specs.Part.{plain_part};
+ghost use Rattle.circ_nodes.specs.Named.{tree_at};
+ghost use Rattle.circ_shared.specs.Patterns.{goal_at};
 ghost use Rattle.circ_check.specs.Deciding.{plain_list, Finds, FoundBehave, DerivedBehave};
-ghost use Rattle.circ_check.specs.Checking.{made_by, with_derived, goals_in};
-ghost use Rattle.circ_check.specs.Knowing.{AreKnown, marks_of};
-ghost use Rattle.circ_check.specs.Ready.{IsPartReady, HasRoom};
+ghost use Rattle.circ_check.specs.Checking.{with_derived, goals_in};
+ghost use Rattle.circ_check.specs.Naming.{AreNamedGoals};
+ghost use Rattle.circ_check.specs.Ready.{IsPartReady};
 ghost use Rattle.circ_check.specs.Watching.{failed_of, derived_of, checking_of, IsSpent};
 ghost use Rattle.circ_check.specs.Watching.{Stands, FitsNext, IsSound, IsAsBefore};
-ghost use Rattle.circ_check.specs.Watching.{Took, TookPlaced, Notes};
+ghost use Rattle.circ_check.specs.Watching.{IsBehindHead, KnowsTheory, EndsBlock, Took, Notes};
 
-use crate::knowing::{apply_known, known_of};
-use crate::placing::{place_links, place_step};
-use crate::running::put;
+use crate::making::made_by;
+use crate::naming::put_goals;
 use crate::tally::Tally;
-use circ_proof::{GoalNames, Link, State, Step};
-use circ_rules::{Due, certify_next};
+use circ_certificates::certify_next;
+use circ_nodes::{Nodes, Terms};
+use circ_proof::{GoalNames, Link, Step};
+use circ_rules::Due;
+use circ_shared::Pattern;
 use circ_special::Gamma;
-use circ_table::{NamedTerms, Part, Table};
+use circ_steps::{Rules, SharedDerivative, SharedState, derivatives, equations, table_numbers};
+use circ_table::{Part, Table};
 use circ_theory::{Goal, Theory};
 use std::alloc::{AllocError, Global};
 use std::collections::VecDeque;
@@ -43,17 +46,25 @@ use std::collections::VecDeque;
 pub struct Checker<'a> {
     alloc: Global,
     theory: &'a Theory,
-    // The table, and those of its terms that certificates and steps named so far.
-    named: NamedTerms,
+    // The terms that have numbers, those of the block under way last.
+    nodes: Nodes,
+    // The theory's equations and derivatives, and the table's terms, by number.
+    equations: Vec<Pattern>,
+    derivatives: Vec<SharedDerivative>,
+    table: Vec<u32>,
     gamma: Gamma,
     due: Due,
-    state: State,
-    // Of the first goals, whether their sides are known to be one term.
-    known: VecDeque<bool>,
+    state: SharedState,
     // How many of the hypotheses are goals of earlier blocks.
     earlier: usize,
     // The goals of the block under way.
-    own: Vec<Goal>,
+    own: Vec<Pattern>,
+    // How many terms there were when its steps began.
+    base: usize,
+    // Those terms of the block that were built.
+    terms: Terms,
+    // The head was taken.
+    is_begun: bool,
     // A step has failed.
     is_stopped: bool,
     // Memory ran out.
@@ -70,13 +81,18 @@ impl<'a> Checker<'a> {
         Checker {
             alloc,
             theory,
-            named: NamedTerms::of(alloc, Table::empty(alloc)),
+            nodes: Nodes::new(alloc),
+            equations: Vec::new(alloc),
+            derivatives: Vec::new(alloc),
+            table: Vec::new(alloc),
             gamma: Gamma::empty(alloc),
             due: Due::all(),
             state: no_state(alloc),
-            known: VecDeque::new(alloc),
             earlier: 0,
             own: Vec::new(alloc),
+            base: 0,
+            terms: Terms::new(alloc),
+            is_begun: false,
             is_stopped: false,
             is_spent: false,
             tally: Tally::new(),
@@ -139,129 +155,163 @@ impl<'a> Checker<'a> {
 
     fn take_part(&mut self, part: Part) -> Result<(), AllocError>
         requires ready { IsPartReady self.old.theory.now (checking_of self.old) (plain_part part) }
+        requires behind { IsBehindHead (plain_part part) self.old }
         requires sound { IsSound self.old.theory.now self.old }
         ensures took { OnOk result (Took self.old.theory.now (plain_part part) self.old self.new) }
         ensures kept { OnErr result (IsAsBefore self.old self.new) }
     {
         match part {
-            Part::Head { table, gamma } => {
-                self.named = NamedTerms::of(self.alloc, table);
-                self.gamma = gamma;
-                self.due = Due::all();
-                Ok(())
-            }
-            Part::Certificate { links } => self.take_certificate(links),
-            Part::Goals { goals, names } => self.begin_block(goals, names.as_slice()),
-            Part::Step { step } => self.take_step(step),
+            Part::Head { table, gamma } => self.begin(&table, gamma),
+            Part::Certificate { links } => self.certify(links.as_slice()),
+            Part::Goals { names, .. } => self.begin_block(names.as_slice()),
+            Part::Step { step } => self.take_step(&step),
         }
     }
 
-    fn take_certificate(&mut self, mut links: Vec<Link>) -> Result<(), AllocError>
-        requires ready { IsPartReady self.old.theory.now (checking_of self.old)
-            (Certificate (plain_links links.items)) }
-        requires sound { IsSound self.old.theory.now self.old }
-        ensures took { OnOk result (Took self.old.theory.now
-            (Certificate (plain_links links.items)) self.old self.new) }
+    // The table and the special set.
+    fn begin(&mut self, table: &Table, gamma: Gamma) -> Result<(), AllocError>
+        requires { IsSound self.old.theory.now self.old }
+        ensures took { OnOk result (Took self.old.theory.now (Head table.now gamma)
+            self.old self.new) }
         ensures kept { OnErr result (IsAsBefore self.old self.new) }
     {
-        place_links(&mut self.named, &mut links)?;
-        self.certify(links.as_slice())
-    }
-
-    // The certificate that is due next, in which places among the named terms stand for numbers.
-    fn certify(&mut self, links: &[Link]) -> Result<(), AllocError>
-        requires in_table { AllOfLinks (λ n. n < length self.old.named.1) (plain_links links.now) }
-        requires table_sorted { AllByRecursion (IsWellSorted self.old.theory.now.signature)
-            self.old.named.0 }
-        requires set { IsSet self.old.theory.now self.old.gamma }
-        requires room { HasRoom (checking_of self.old) }
-        requires due { 0 < length (checking_of self.old).due }
-        requires sound { IsSound self.old.theory.now self.old }
-        ensures took { OnOk result (TookPlaced self.old.theory.now
-            (Certificate (plain_links links.now)) self.old self.new) }
-        ensures kept { OnErr result (IsAsBefore self.old self.new) }
-    {
-        let holds = certify_next(
-            self.alloc,
-            self.theory,
-            self.named.terms(),
-            &self.gamma,
-            &mut self.due,
-            links,
-        )?;
-        if !holds {
-            self.tally = self.tally.with_failure();
-            return Ok(());
-        }
-        self.tally = self.tally.with_one();
+        self.enter(table)?;
+        self.gamma = gamma;
+        self.due = Due::all();
+        self.base = self.nodes.len();
+        self.is_begun = true;
         Ok(())
     }
 
-    // A block with these goals. After a step that failed it is begun in name alone.
-    fn begin_block(&mut self, goals: Vec<Goal>, names: &[GoalNames]) -> Result<(), AllocError>
-        requires hyps_sorted { AreSortedGoals self.old.theory.now
-            (take self.old.earlier self.old.state.hyps.items ++ self.old.own.items) }
-        requires goals_sorted { AreSortedGoals self.old.theory.now goals.items }
-        requires known { AreKnown (marks_of (map plain_names names.now)) goals.items }
+    // The theory and the table get numbers.
+    fn enter(&mut self, table: &Table) -> Result<(), AllocError>
+        ensures grows { Grows self.old.nodes self.new.nodes }
+        ensures knows { OnOk result (KnowsTheory self.old.theory.now self.new.nodes
+            self.new.equations.items self.new.derivatives.items) }
+        ensures there { OnOk result
+            (AllByRecursion (λ n. n < length self.new.nodes) self.new.table.items) }
+        ensures table { OnOk result (map (tree_at self.new.nodes) self.new.table.items
+            ≡ table.now) }
+        ensures others { self.new ≡ record self.old {
+          nodes = self.new.nodes;
+          equations = self.new.equations;
+          derivatives = self.new.derivatives;
+          table = self.new.table;
+        } }
+    {
+        self.equations = equations(self.alloc, self.theory, &mut self.nodes)?;
+        self.derivatives = derivatives(self.alloc, self.theory, &mut self.nodes)?;
+        self.table = table_numbers(self.alloc, &mut self.nodes, table)?;
+        Ok(())
+    }
+
+    // The certificate that is due next.
+    fn certify(&mut self, links: &[Link]) -> Result<(), AllocError>
+        requires ready { IsPartReady self.old.theory.now (checking_of self.old)
+            (Certificate (plain_links links.now)) }
+        requires begun { self.old.is_begun ≡ true }
         requires sound { IsSound self.old.theory.now self.old }
-        ensures took { OnOk result ((names : List PlainNames) → Took self.old.theory.now
-            (Goals goals.items names) self.old self.new) }
+        ensures took { OnOk result (Took self.old.theory.now
+            (Certificate (plain_links links.now)) self.old self.new) }
+        ensures kept { OnErr result (IsAsBefore self.old self.new) }
+    {
+        let rules = Rules {
+            alloc: self.alloc,
+            theory: self.theory,
+            equations: self.equations.as_slice(),
+            derivatives: self.derivatives.as_slice(),
+            gamma: &self.gamma,
+            table: self.table.as_slice(),
+        };
+        let holds = certify_next(&rules, &mut self.nodes, &mut self.due, links)?;
+        self.tally = self.tally.counted(holds);
+        Ok(())
+    }
+
+    // A block with the goals of these names. After a step that failed it is begun in name alone.
+    fn begin_block(&mut self, names: &[GoalNames]) -> Result<(), AllocError>
+        requires begun { self.old.is_begun ≡ true }
+        requires names { (goals : List PlainGoal) × IsPartReady self.old.theory.now
+            (checking_of self.old) (Goals goals (map plain_names names.now)) }
+        requires sound { IsSound self.old.theory.now self.old }
+        ensures took { OnOk result ((goals : List PlainGoal) → IsPartReady self.old.theory.now
+            (checking_of self.old) (Goals goals (map plain_names names.now))
+            → Took self.old.theory.now (Goals goals (map plain_names names.now))
+            self.old self.new) }
         ensures kept { OnErr result (IsAsBefore self.old self.new) }
     {
         if self.is_stopped {
             return begin_list(self.alloc, &mut self.derived);
         }
-        self.known = known_of(self.alloc, names)?;
-        begin(
+        self.end_block()?;
+        put_goals(
             self.alloc,
-            &mut self.state,
-            self.earlier,
+            &mut self.nodes,
+            self.table.as_slice(),
+            names,
+            &mut self.state.goals,
             &mut self.own,
-            goals.as_slice(),
         )?;
-        self.earlier = self.state.hyps.len();
-        self.own = goals;
+        self.base = self.nodes.len();
         begin_list(self.alloc, &mut self.derived)
     }
 
-    fn take_step(&mut self, mut step: Step) -> Result<(), AllocError>
+    // The block's own goals take the place of what it derived, and the terms of its steps go.
+    fn end_block(&mut self) -> Result<(), AllocError>
+        requires { IsSound self.old.theory.now self.old }
+        ensures ended { OnOk result (EndsBlock self.old self.new) }
+        ensures kept { OnErr result (IsAsBefore self.old self.new) }
+    {
+        self.state.cut(&mut self.nodes, self.base, self.earlier);
+        self.terms = Terms::new(self.alloc);
+        self.state.hyps.append(&mut self.own)?;
+        self.earlier = self.state.hyps.len();
+        Ok(())
+    }
+
+    fn take_step(&mut self, step: &Step) -> Result<(), AllocError>
         requires ready { IsPartReady self.old.theory.now (checking_of self.old)
-            (StepPart (plain_step step)) }
+            (StepPart (plain_step step.now)) }
+        requires begun { self.old.is_begun ≡ true }
         requires sound { IsSound self.old.theory.now self.old }
         ensures took { OnOk result (Took self.old.theory.now
-            (StepPart (plain_step step)) self.old self.new) }
+            (StepPart (plain_step step.now)) self.old self.new) }
         ensures kept { OnErr result (IsAsBefore self.old self.new) }
     {
         if self.is_stopped {
             self.tally = self.tally.with_one();
             return Ok(());
         }
-        place_step(&mut self.named, &mut step)?;
-        self.advance(&step)
+        self.advance(step)
     }
 
-    // The step, in which places among the named terms stand for numbers, where none has failed.
+    // The step, where none has failed.
     fn advance(&mut self, step: &Step) -> Result<(), AllocError>
         requires going { self.old.is_stopped ≡ false }
-        requires in_table { AllOfStep (λ n. n < length self.old.named.1) (plain_step step.now) }
-        requires table_sorted { AllByRecursion (IsWellSorted self.old.theory.now.signature)
-            self.old.named.0 }
-        requires room { HasRoom (checking_of self.old) }
+        requires ready { IsPartReady self.old.theory.now (checking_of self.old)
+            (StepPart (plain_step step.now)) }
+        requires begun { self.old.is_begun ≡ true }
         requires sound { IsSound self.old.theory.now self.old }
-        ensures took { OnOk result (TookPlaced self.old.theory.now
+        ensures took { OnOk result (Took self.old.theory.now
             (StepPart (plain_step step.now)) self.old self.new) }
         ensures kept { OnErr result (IsAsBefore self.old self.new) }
     {
-        let made = made_by(self.alloc, step, &self.state.goals)?;
-        let holds = apply_known(
+        let made = made_by(
             self.alloc,
-            self.theory,
-            self.named.terms(),
-            &self.gamma,
-            &mut self.state,
-            &mut self.known,
+            &self.nodes,
+            &mut self.terms,
             step,
+            &self.state.goals,
         )?;
+        let rules = Rules {
+            alloc: self.alloc,
+            theory: self.theory,
+            equations: self.equations.as_slice(),
+            derivatives: self.derivatives.as_slice(),
+            gamma: &self.gamma,
+            table: self.table.as_slice(),
+        };
+        let holds = rules.apply(&mut self.nodes, &mut self.state, step)?;
         self.note_step(holds, made)
     }
 
@@ -283,30 +333,14 @@ impl<'a> Checker<'a> {
 }
 
 // Nothing is taken as proved, and nothing is to be proved.
-fn no_state(alloc: Global) -> State
-    ensures { plain_state result ≡ state_with [] [] }
+fn no_state(alloc: Global) -> SharedState
+    ensures hyps { result.hyps.items ≡ [] }
+    ensures goals { result.goals.items ≡ [] }
 {
-    State {
+    SharedState {
         hyps: Vec::new(alloc),
         goals: VecDeque::new(alloc),
     }
-}
-
-// A block begins: the goals of the last one are hypotheses with those of the blocks before it.
-fn begin(
-    alloc: Global,
-    state: &mut State,
-    earlier: usize,
-    own: &mut Vec<Goal>,
-    goals: &[Goal],
-) -> Result<(), AllocError>
-    ensures { OnOk result (plain_state state.new ≡ state_with
-        (take earlier state.old.hyps.items ++ own.old.items) goals.now) }
-{
-    state.hyps.truncate(earlier);
-    state.hyps.append(own)?;
-    state.goals.clear();
-    put(alloc, &mut state.goals, goals)
 }
 
 // One more block has derived nothing.
@@ -317,26 +351,6 @@ fn begin_list(alloc: Global, lists: &mut Vec<Vec<Goal>>) -> Result<(), AllocErro
 {
     lists.push(Vec::new(alloc))?;
     Ok(())
-}
-
-// What the step makes a hypothesis, if it holds.
-fn made_by(alloc: Global, step: &Step, goals: &VecDeque<Goal>) -> Result<Option<Goal>, AllocError>
-    ensures { IfOk result (λ o. goals_in o ≡ made_by (plain_step step.now) goals.now.items) }
-{
-    match step {
-        Step::Derive => first(alloc, goals),
-        _ => Ok(None),
-    }
-}
-
-// The first goal once more.
-fn first(alloc: Global, goals: &VecDeque<Goal>) -> Result<Option<Goal>, AllocError>
-    ensures { IfOk result (λ o. goals_in o ≡ made_by Derive goals.now.items) }
-{
-    match goals.front() {
-        Some(goal) => Ok(Some(goal.share(alloc)?)),
-        None => Ok(None),
-    }
 }
 
 // The goal goes last in the last list.

@@ -8,7 +8,8 @@
 mod checker;
 mod checking;
 mod knowing;
-mod placing;
+mod making;
+mod naming;
 mod running;
 mod tally;
 

@@ -1,6 +1,6 @@
 //! Certificates and steps are counted.
 ghost use Rattle.std.specs.Prelude.{◌≡◌, ◌+◌, ◌<◌, ◌^◌};
-ghost use Rattle.circ_check.specs.Checking.{no_tally, with_one, with_failure};
+ghost use Rattle.circ_check.specs.Checking.{no_tally, with_one, with_failure, counted};
 
 /// How many certificates and steps there were, and the first that failed.
 #[derive(Clone, Copy)]
@@ -39,6 +39,18 @@ impl Tally {
         Tally {
             count,
             failed: self.failed.or(Some(count)),
+        }
+    }
+
+    /// With one more, which holds or fails.
+    pub(crate) fn counted(self, holds: bool) -> Tally
+        requires { self.count + 1 < 2 ^ 64 }
+        ensures { result ≡ counted holds self }
+    {
+        if holds {
+            self.with_one()
+        } else {
+            self.with_failure()
         }
     }
 }

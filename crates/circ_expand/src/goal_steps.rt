@@ -1,6 +1,6 @@
 //! The steps of uses: what becomes of a goal, and uses along layers.
-ghost use Rattle.std.specs.Prelude.{◌≡◌, ◌==◌, ◌<◌, ◌≤◌, ◌∷◌, List, IfOk, map, take, length, nat_lt};
-ghost use Rattle.std.specs.Prelude.{if◌then◌else◌, Some, None};
+ghost use Rattle.std.specs.Prelude.{◌≡◌, ◌==◌, ◌<◌, ◌≤◌, ◌∷◌, List, map, take, length, nat_lt};
+ghost use Rattle.std.specs.Prelude.{if◌then◌else◌, IfOk, OnOk, Some, None};
 ghost use Rattle.std.proofs.Common.{Global};
 ghost use Rattle.std.specs.declared.rc.Rc.{Rc};
 ghost use Rattle.circ_uses.specs.declared.uses.Layer.{Layer};
@@ -12,14 +12,17 @@ ghost use Rattle.circ_proof.specs.Link.{resolved_chain};
 ghost use Rattle.circ_entry.specs.Entries.{derivative_at};
 ghost use Rattle.circ_expansion.specs.Followed.{Open, Simplified, Reduced_by, Derived};
 ghost use Rattle.circ_book.specs.Histories.{histories_of, history_at};
-ghost use Rattle.circ_expansion.specs.Expand.{basis_in, child, extended, By_entry};
-ghost use Rattle.circ_expansion.specs.Machine.{all_uses, along_step, Enter_use};
+ghost use Rattle.circ_expansion.specs.Pieces.{no_piece};
+ghost use Rattle.circ_expansion.specs.Expand.{basis_in, child, extended, simplified_call, By_entry};
+ghost use Rattle.circ_expansion.specs.Machine.{all_uses, along_step, In_row};
+ghost use Rattle.circ_expansion.specs.Machine.{Begin_use, Enter_use, Put_between};
 ghost use Rattle.circ_uses.specs.Valuations.{by_of, valued_by};
 ghost use Rattle.circ_uses.specs.Fronts.{front, IsCut};
 ghost use Rattle.circ_uses.specs.Uses.{held_by, layers_of};
 ghost use Rattle.circ_tasks.specs.Tasks.{call_of, basis_of, target_of, background_in, jobs_of};
 ghost use Rattle.circ_written.specs.Values.{values_of};
 ghost use Rattle.circ_tasks.specs.Tasks.{Steps, stepped, why_at, simpler_use, node_history};
+ghost use Rattle.circ_tasks.specs.Tasks.{begun_sides};
 ghost use Rattle.circ_tasks.specs.Tasks.{earlier_history, goal_stepped, holes_before};
 
 use circ_book::{Node, What};
@@ -148,15 +151,53 @@ fn simplified_step<'a>(
         Ok(left) => left,
         Err(fault) => return Err(Halt::Past(fault)),
     };
+    push_simpler(frame, work, &call, left, next)?;
+    begin_goal(frame, work, call, basis, chain, goal)?;
+    Ok(())
+}
+
+// The use of the goal of this node with this left side is next, and stands between two rows.
+fn push_simpler<'a>(
+    frame: &Frame<'a, '_>,
+    work: &mut Work<'a>,
+    call: &Rc<Call>,
+    left: Term,
+    next: Option<u32>,
+) -> Result<(), AllocError>
+    ensures tasks { OnOk result (jobs_of frame.now work.new ≡ Begin_use (simplified_call
+        (all_uses (background_in frame.now)) (background_in frame.now)
+        (call_of frame.now call.now.value) left
+        (option_map_or (history_at frame.now.table.now frame.now.book.now.nodes.items)
+        next Open)) ∷ Put_between ∷ jobs_of frame.now work.old) }
+    ensures values { work.new.values ≡ work.old.values }
+    ensures left { work.new.left ≡ work.old.left }
+{
     work.tasks.push(Task::PutBetween)?;
-    work.tasks.push(Task::BeginSimpler(Simpler {
-        call: call.clone()?,
-        left,
-        next,
-    }))?;
-    let from = goal.left.share()?;
-    let to = goal.right.share()?;
-    begin_sides(frame, work, call, basis, chain, from, to)?;
+    let call = call.clone()?;
+    work.tasks
+        .push(Task::BeginSimpler(Simpler { call, left, next }))?;
+    Ok(())
+}
+
+// The links on both sides of a goal are next.
+fn begin_goal<'a>(
+    frame: &Frame<'a, '_>,
+    work: &mut Work<'a>,
+    call: Rc<Call>,
+    basis: Rc<Basis>,
+    chain: &'a Chain,
+    goal: &Goal,
+) -> Result<(), AllocError>
+    ensures tasks { OnOk result (jobs_of frame.now work.new ≡
+        begun_sides frame.now call.value basis.value chain.now goal.now.left goal.now.right
+        (jobs_of frame.now work.old)) }
+    ensures values { OnOk result (values_of work.new.values ≡
+        In_row no_piece ∷ values_of work.old.values) }
+    ensures left { work.new.left ≡ work.old.left }
+{
+    let left = goal.left.share()?;
+    let right = goal.right.share()?;
+    begin_sides(frame, work, call, basis, chain, left, right)?;
     Ok(())
 }
 

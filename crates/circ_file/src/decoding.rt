@@ -46,26 +46,21 @@ fn decode_by(
         return Err(fault);
     }
     let version = reader.version();
-    match gather(alloc, theory, version, reader) {
+    match gather(alloc, version, reader) {
         Ok(proof) => Ok(proof),
         Err(_) => Err(FileFault::Memory),
     }
 }
 
 // The proof of the version whose parts wait.
-fn gather(
-    alloc: Global,
-    theory: &Theory,
-    version: u8,
-    reader: &mut FileReader,
-) -> Result<Proof, AllocError>
+fn gather(alloc: Global, version: u8, reader: &mut FileReader) -> Result<Proof, AllocError>
     requires sound { IsSound reader.old }
     requires fault { reader.old.fault ≡ None }
     ensures { IfOk result (λ p. (q : PlainProof) →
         gather_all nothing_gathered (queue_of reader.old.reader.machine) ≡ gathered q →
         q.version ≡ version → plain_proof p ≡ q) }
 {
-    let mut gathering = Gathering::new(alloc, theory, version);
+    let mut gathering = Gathering::new(alloc, version);
     while let Some(part) = reader.next() {
         gathering.take(part)?;
     }
@@ -83,7 +78,7 @@ struct Gathering {
 }
 
 impl Gathering {
-    fn new(alloc: Global, theory: &Theory, version: u8) -> Gathering
+    fn new(alloc: Global, version: u8) -> Gathering
         ensures gathered { gathered_of result ≡ nothing_gathered }
         ensures version { result.proof.version ≡ version }
     {
@@ -92,7 +87,7 @@ impl Gathering {
             proof: Proof {
                 version,
                 table: Vec::new(alloc),
-                gamma: no_places(alloc, theory),
+                gamma: Gamma::empty(alloc),
                 certificates: Vec::new(alloc),
                 blocks: Vec::new(alloc),
             },
@@ -178,14 +173,5 @@ impl Gathering {
             steps,
         })?;
         Ok(())
-    }
-}
-
-fn no_places(alloc: Global, theory: &Theory) -> Gamma
-    ensures { result ≡ [] }
-{
-    match Gamma::of(theory, Vec::new(alloc)) {
-        Some(gamma) => gamma,
-        None => unreachable!(),
     }
 }

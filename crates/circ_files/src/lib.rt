@@ -20,4 +20,4 @@ pub use intake::Intake;
 pub use script_file::take_script;
 pub use status::{CHECKED_FILE, SCRIPT_FILE, STORED_FILE, Status, THEORY_FILE};
 pub use texts::{push_counted, push_numbered, push_spent, push_unreadable};
-pub use theory_file::{take_plain_theory, take_theory};
+pub use theory_file::take_theory;

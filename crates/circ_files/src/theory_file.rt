@@ -3,14 +3,12 @@ ghost use Rattle.std.specs.Prelude.{IfOk, IfErr};
 ghost use Rattle.circ_outer.specs.Shelf.{ShelfFrame};
 ghost use Rattle.circ_files.specs.Quiet.{IsQuietCall};
 ghost use Rattle.circ_files.specs.TheoryFile.{TakesTheory, IsTheoryFault};
-ghost use Rattle.circ_files.specs.TheoryFile.{TakesPlainTheory, IsPlainTheoryFault};
 
 use crate::files::take_file;
 use crate::status::{Status, THEORY_FILE};
-use circ_form::Text;
 use circ_outer::Shelf;
 use circ_read::laws::read_in_one_way;
-use circ_read::{Cause, ReadFault, read_theory};
+use circ_read::{ReadFault, read_theory};
 use circ_theory::Theory;
 use std::alloc::Global;
 
@@ -38,31 +36,4 @@ pub fn take_theory<S: Shelf>(alloc: Global, shelf: &mut S, name: &str) -> Result
         }),
         Err(ReadFault::Memory) => Err(Status::Memory),
     }
-}
-
-/// The theory that file 1 reads as, for a command that leaves conditions out, or why there is none.
-pub fn take_plain_theory<S: Shelf>(
-    alloc: Global,
-    shelf: &mut S,
-    name: &str,
-) -> Result<Theory, Status>
-    ensures takes { IfOk result (λ th. TakesPlainTheory name.now th (S.state shelf.old)) }
-    ensures fault { IfErr result
-        (IsPlainTheoryFault name.now (S.state shelf.old) (S.state shelf.new)) }
-    ensures quiet { IsQuietCall (S.state shelf.old) (S.state shelf.new) result }
-    ensures frame { ShelfFrame (S.state shelf.old) (S.state shelf.new) }
-{
-    let theory = match take_theory(alloc, shelf, name) {
-        Ok(theory) => theory,
-        Err(status) => return Err(status),
-    };
-    if theory.has_conditions() {
-        let word = Text::of(alloc, b"ceq")?;
-        return Err(Status::Unreadable {
-            file: THEORY_FILE,
-            place: 0,
-            cause: Cause::LeftOut { word },
-        });
-    }
-    Ok(theory)
 }

@@ -18,9 +18,10 @@ use Rattle.circ_proof.specs.declared.links.Chain.{Chain}
 use Rattle.circ_theory.specs.declared.way.Way.TheVariants.{Back}
 use Rattle.circ_expansion.specs.Pieces.{no_piece, no_part}
 use Rattle.circ_expansion.specs.Expand.{Spending, Yields, Long, counted, tested, all_tested, Call as Use, Basis as SideBasis, around, whole_with, stood, trail, link_setting, case_basis, cases_at}
-use Rattle.circ_expansion.specs.Machine.{In_row, In_parts, Put_behind, Put_between, reason_step, Pending, pending, Task as Job, Give_reason, Give_reasons, Add_part, Begin_split, End_split, task_step, reasons_step}
+use Rattle.circ_expansion.specs.Machine.{In_row, In_parts, Put_behind, Put_between, reason_step, Value, Pending, pending, Task as Job, Give_reason, Give_reasons, Add_part, Begin_split, End_split, task_step, reasons_step}
 use Rattle.circ_expansion.specs.Machine.{all_uses, rest_done, tasks_weight}
 use Rattle.circ_uses.specs.Uses.{first_of, BuildsLast}
+use Rattle.circ_link_steps.specs.Splits.{split_jobs}
 use Rattle.circ_written.specs.Values.{values_of}
 use Rattle.circ_tasks.specs.Tasks.{call_of, basis_of, background_in, jobs_of, pending_of, whys_at, why_at, reasons_job, split_term, case_list_of, assumed, stepped, IsAlike, reason_job, begun_sides, links_at, Halts}
 use Rattle.circ_tasks.specs.declared.tasks.Halt.TheVariants as halt
@@ -171,7 +172,7 @@ whole_builds c v t s (Err f) a e b h =
     names_later (instance c.by v) (stood c t) f a (names_later (instance c.by t) (around c t ∷ []) f b (names_alone (around c t) f (subst P e h)))
 
 -- a split stands between the links of both sides
-pub split_begun : (fr : Frame) (b : Basis) (d : Call) (chain : Chain ℕ) (v s t : Tree) (ws : WhysOf Tree) (r : Reasons) (w new : Work)
+pub split_begun : (fr : Frame) (b : Basis) (d : Call) (chain : Chain ℕ) (v s t : Tree) (ws : WhysOf Tree) (r : Reasons) (js : List Job) (vs : List Value) (n : ℕ)
     → first_of (trail (link_setting (background_in fr) (basis_of fr b)) (links_at fr chain.left.items) s) ≡ None
     → first_of (trail (link_setting (background_in fr) (basis_of fr b)) (links_at fr chain.right.items) t) ≡ None
     → reasons_job fr r ≡ Give_reasons (call_of fr d) (basis_of fr b) ws v (cases_at (all_uses (background_in fr)) (background_in fr) (sort_of v))
@@ -179,52 +180,50 @@ pub split_begun : (fr : Frame) (b : Basis) (d : Call) (chain : Chain ℕ) (v s t
     (led_all (link_setting (background_in fr) (basis_of fr b)) (links_at fr chain.left.items) s)
     (led_all (link_setting (background_in fr) (basis_of fr b)) (links_at fr chain.right.items) t)
     → split_term r ≡ instance (call_of fr d).by v
-    → jobs_of fr new ≡ begun_sides fr d b chain s t (Begin_split (split_term r) ∷ reasons_job fr r ∷ End_split (split_term r) ∷ Put_between ∷ jobs_of fr w)
-    → values_of new.values ≡ In_row no_piece ∷ values_of w.values → new.left ≡ w.left
     → reason_step (all_uses (background_in fr)) (background_in fr) (call_of fr d) (basis_of fr b) (Split_why (resolved_chain fr.table.now (plain_chain chain)) v ws) s t
-    (jobs_of fr w) (values_of w.values) w.left
-    ≡ Yields (pending_of fr new) new.left
-split_begun fr b d chain v s t ws r w new a e job term js vs n =
+    js vs n
+    ≡ Yields (pending (begun_sides fr d b chain s t (split_jobs fr r js)) (In_row no_piece ∷ vs)) n
+split_begun fr b d chain v s t ws r js vs n a e job term =
     let f = background_in fr in
     let S = link_setting f (basis_of fr b) in
     let ls = links_at fr chain.left.items in
     let rs = links_at fr chain.right.items in
-    let G : Job → Tree → Spending Pending = λ k u. Yields (pending (begun_sides fr d b chain s t (Begin_split u ∷ k ∷ End_split u ∷ Put_between ∷ jobs_of fr w))
-    (In_row no_piece ∷ values_of w.values)) w.left in
+    let G : Job → Tree → Spending Pending = λ k u. Yields (pending (begun_sides fr d b chain s t (Begin_split u ∷ k ∷ End_split u ∷ Put_between ∷ js))
+    (In_row no_piece ∷ vs)) n in
     let l = cases_at (all_uses f) f (sort_of v) in
     let first : Job = Give_reasons (call_of fr d) (basis_of fr b) ws v l l.constants (led_all S ls s) (led_all S rs t) in
     tests_none (trail S ls s ++ trail S rs t) (G first (instance (call_of fr d).by v)) (none_first (trail S ls s) (trail S rs t) a ∙ e)
-    ∙ (λ i. G (sym job i) (sym term i)) ∙ (λ i. Yields (pending (sym js i) (sym vs i)) (sym n i))
+    ∙ (λ i. G (sym job i) (sym term i))
 
 -- a term of a side is past a limit before a split
-abbrev pub split_pending : Frame → Basis → Call → Chain ℕ → (v s t : Tree) → WhysOf Tree → Work → Spending Pending
-split_pending fr b d chain v s t ws w =
+abbrev pub split_pending : Frame → Basis → Call → Chain ℕ → (v s t : Tree) → WhysOf Tree → List Job → List Value → ℕ → Spending Pending
+split_pending fr b d chain v s t ws js vs n =
     let f = background_in fr in
     let S = link_setting f (basis_of fr b) in
     let l = cases_at (all_uses f) f (sort_of v) in
     let u = instance (call_of fr d).by v in
     Yields (pending (begun_sides fr d b chain s t (Begin_split u ∷ Give_reasons (call_of fr d) (basis_of fr b) ws v l l.constants
-    (led_all S (links_at fr chain.left.items) s) (led_all S (links_at fr chain.right.items) t) ∷ End_split u ∷ Put_between ∷ jobs_of fr w))
-    (In_row no_piece ∷ values_of w.values)) w.left
+    (led_all S (links_at fr chain.left.items) s) (led_all S (links_at fr chain.right.items) t) ∷ End_split u ∷ Put_between ∷ js))
+    (In_row no_piece ∷ vs)) n
 
-pub left_split_past : (fr : Frame) (b : Basis) (d : Call) (chain : Chain ℕ) (v s t : Tree) (ws : WhysOf Tree) (w : Work) (e : TermFault)
+pub left_split_past : (fr : Frame) (b : Basis) (d : Call) (chain : Chain ℕ) (v s t : Tree) (ws : WhysOf Tree) (js : List Job) (vs : List Value) (n : ℕ) (e : TermFault)
     → Names e (first_of (trail (link_setting (background_in fr) (basis_of fr b)) (links_at fr chain.left.items) s))
     → Halts (reason_step (all_uses (background_in fr)) (background_in fr) (call_of fr d) (basis_of fr b) (Split_why (resolved_chain fr.table.now (plain_chain chain)) v ws)
-    s t (jobs_of fr w) (values_of w.values) w.left) (halt.Past e)
-left_split_past fr b d chain v s t ws w e h =
+    s t js vs n) (halt.Past e)
+left_split_past fr b d chain v s t ws js vs n e h =
     let S = link_setting (background_in fr) (basis_of fr b) in
     let xs = trail S (links_at fr chain.left.items) s in
     let ys = trail S (links_at fr chain.right.items) t in
-    names_tests (xs ++ ys) (split_pending fr b d chain v s t ws w) e (rising_first xs ys e h)
+    names_tests (xs ++ ys) (split_pending fr b d chain v s t ws js vs n) e (rising_first xs ys e h)
 
-pub right_split_past : (fr : Frame) (b : Basis) (d : Call) (chain : Chain ℕ) (v s t : Tree) (ws : WhysOf Tree) (w : Work) (e : TermFault)
+pub right_split_past : (fr : Frame) (b : Basis) (d : Call) (chain : Chain ℕ) (v s t : Tree) (ws : WhysOf Tree) (js : List Job) (vs : List Value) (n : ℕ) (e : TermFault)
     → first_of (trail (link_setting (background_in fr) (basis_of fr b)) (links_at fr chain.left.items) s) ≡ None
     → Names e (first_of (trail (link_setting (background_in fr) (basis_of fr b)) (links_at fr chain.right.items) t))
     → Halts (reason_step (all_uses (background_in fr)) (background_in fr) (call_of fr d) (basis_of fr b) (Split_why (resolved_chain fr.table.now (plain_chain chain)) v ws)
-    s t (jobs_of fr w) (values_of w.values) w.left) (halt.Past e)
-right_split_past fr b d chain v s t ws w e a h =
+    s t js vs n) (halt.Past e)
+right_split_past fr b d chain v s t ws js vs n e a h =
     let S = link_setting (background_in fr) (basis_of fr b) in
     let xs = trail S (links_at fr chain.left.items) s in
     let ys = trail S (links_at fr chain.right.items) t in
     let P : Option Limit → Type 0 = λ o. Names e o in
-    names_tests (xs ++ ys) (split_pending fr b d chain v s t ws w) e (subst P (sym (none_first xs ys a)) h)
+    names_tests (xs ++ ys) (split_pending fr b d chain v s t ws js vs n) e (subst P (sym (none_first xs ys a)) h)

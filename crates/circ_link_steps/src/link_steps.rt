@@ -1,5 +1,6 @@
 //! The steps of the links of a side.
-ghost use Rattle.std.specs.Prelude.{◌≡◌, ◌∷◌, [], ◌++◌, ◌+◌, IfOk, List, map, unwrap_or};
+ghost use Rattle.std.specs.Prelude.{◌≡◌, ◌∷◌, [], ◌++◌, ◌+◌, IfOk, OnOk, List, map, unwrap_or};
+ghost use Rattle.std.specs.Prelude.{Some, None};
 ghost use Rattle.circ_term.specs.Tree.{at, sort_of, trees_of};
 ghost use Rattle.circ_term.specs.Subst.{BuildsAll};
 ghost use Rattle.circ_term.specs.Substitution.{instance, instances};
@@ -10,10 +11,13 @@ ghost use Rattle.circ_proof.specs.Plain.{plain_link};
 ghost use Rattle.circ_proof.specs.Link.{resolved_link};
 ghost use Rattle.circ_expansion.specs.Expand.{base, bounds_of, counted, all_tested, around, start_of};
 ghost use Rattle.circ_expansion.specs.Expand.{stood};
-ghost use Rattle.circ_expansion.specs.Machine.{Value, In_row};
+ghost use Rattle.circ_expansion.specs.Machine.{Value, In_row, Enter_use, Put_behind};
 ghost use Rattle.circ_written.specs.Nodes.{IsLink, piece_of};
+ghost use Rattle.circ_uses.specs.Fronts.{front};
+ghost use Rattle.circ_uses.specs.Uses.{layers_of};
 ghost use Rattle.circ_uses.specs.Valuations.{by_of};
 ghost use Rattle.circ_tasks.specs.Tasks.{call_of, basis_of, target_of, background_in, links_job};
+ghost use Rattle.circ_tasks.specs.Tasks.{jobs_of};
 ghost use Rattle.circ_written.specs.Values.{values_of};
 ghost use Rattle.circ_tasks.specs.Tasks.{Steps, stepped, linked, used, hypothesised, link_goes};
 
@@ -22,7 +26,7 @@ use circ_proof::Link;
 use circ_tasks::{Call, Frame, Halt, Links, Target, Task, Work, all_named, named};
 use circ_term::{Term, TermFault};
 use circ_theory::Way;
-use circ_uses::{By, Front, add_places, given, variables_in};
+use circ_uses::{By, Front, Layer, add_places, given, variables_in};
 use circ_written::Row;
 use std::alloc::AllocError;
 use std::rc::Rc;
@@ -203,21 +207,40 @@ fn content_step<'a>(
     work.left -= 1;
     let new = named(frame.table, new)?;
     match more.call.by.apply(frame.alloc, &new) {
-        Ok(_) => {
-            let old = part(term, path)?;
-            let by = bounds_of(frame.alloc, &more.call.by, &old, &new)?;
-            let path = frame.path_below(&more.call, path)?;
-            let row = Row::Content {
-                op,
-                path,
-                old,
-                new,
-                by,
-            };
+        Ok(made) => {
+            drop(made);
+            let row = content_row(frame, &more.call, term, op, path, new)?;
             write(frame, work, more, row)
         }
         Err(fault) => Err(Halt::Past(fault)),
     }
+}
+
+// The row of such a link.
+fn content_row(
+    frame: &Frame<'_, '_>,
+    call: &Call,
+    term: &Term,
+    op: u32,
+    path: &[u16],
+    new: Term,
+) -> Result<Row, AllocError>
+    ensures piece { IfOk result (λ r. piece_of r ≡ Content_piece op
+        (base (call_of frame.now call.now) ++ path.now)
+        (unwrap_or (at term.now path.now) term.now) new
+        (bounds_of (by_of call.now.by.value) (unwrap_or (at term.now path.now) term.now) new)) }
+    ensures link { IfOk result IsLink }
+{
+    let old = part(term, path)?;
+    let by = bounds_of(frame.alloc, &call.by, &old, &new)?;
+    let path = frame.path_below(call, path)?;
+    Ok(Row::Content {
+        op,
+        path,
+        old,
+        new,
+        by,
+    })
 }
 
 // The whole term to which a link leads is tested, the row is written, and the other links
@@ -234,7 +257,8 @@ fn write<'a>(
         work.old.left) work.new result }
 {
     match frame.around(&more.call, &more.term) {
-        Ok(_) => {
+        Ok(whole) => {
+            drop(whole);
             if work.values.add_row(row)? {
                 work.tasks.push(Task::Links(more))?;
                 return Ok(());
@@ -309,8 +333,26 @@ fn use_hypothesis<'a>(
     let target = frame.hypothesis(&more.basis, used.number);
     let by = given_by(frame, target, terms.as_slice())?;
     let call = hypothesis_call(frame, &more.call, target, whole, standing, used.path, by)?;
+    push_use(frame, work, more, used.way, call)?;
+    Ok(())
+}
+
+// A use is next, then goes behind the last row in this way, and then the other links come.
+fn push_use<'a>(
+    frame: &Frame<'a, '_>,
+    work: &mut Work<'a>,
+    more: Links<'a>,
+    way: Way,
+    call: Rc<Call>,
+) -> Result<(), AllocError>
+    ensures tasks { OnOk result (jobs_of frame.now work.new ≡
+        Enter_use (call_of frame.now call.value) ∷ Put_behind way ∷
+        links_job frame.now more.entry ∷ jobs_of frame.now work.old) }
+    ensures values { work.new.values ≡ work.old.values }
+    ensures left { work.new.left ≡ work.old.left }
+{
     work.tasks.push(Task::Links(more))?;
-    work.tasks.push(Task::PutBehind(used.way))?;
+    work.tasks.push(Task::PutBehind(way))?;
     work.tasks.push(Task::EnterUse(call))?;
     Ok(())
 }
@@ -341,20 +383,73 @@ fn hypothesis_call(
         used (background_in frame.now) (call_of frame.now call.now) (target_of frame.now goal)
         whole standing.now path.now (by_of by.value)) }
 {
-    let mut next = call.share()?;
-    next.whole = whole;
-    next.goal = goal;
-    next.by = by;
     if frame.theory.is_hidden(sort(frame, goal)) {
         let mut layers = Vec::new(frame.alloc);
         add_places(frame.alloc, standing, path, &mut layers)?;
-        next.along = Some(Front::of(frame.alloc, layers)?);
-        return Ok(Rc::new(frame.alloc, next)?);
+        let along = Front::of(frame.alloc, layers)?;
+        let hidden = along_call(frame, call, goal, whole, along, by)?;
+        return Ok(hidden);
     }
-    let path = frame.below(call, path)?;
-    next.path = Rc::new(frame.alloc, path)?;
-    next.entries = Front::of(frame.alloc, Vec::new(frame.alloc))?;
-    next.along = None;
+    let below = frame.below(call, path)?;
+    let visible = at_call(frame, call, goal, whole, below, by)?;
+    Ok(visible)
+}
+
+// The use of a goal along layers.
+fn along_call(
+    frame: &Frame<'_, '_>,
+    call: &Call,
+    goal: Target,
+    whole: Term,
+    along: Front<Layer>,
+    by: Rc<By>,
+) -> Result<Rc<Call>, AllocError>
+    ensures { IfOk result (λ d. call_of frame.now d.value ≡ record (call_of frame.now call.now) {
+      whole = whole;
+      along = Some (layers_of frame.now.theory.now (front along));
+      goal = target_of frame.now goal;
+      by = by_of by.value;
+    }) }
+{
+    let next = Call {
+        whole,
+        path: call.path.clone()?,
+        entries: call.entries.share()?,
+        along: Some(along),
+        goal,
+        by,
+        assumptions: call.assumptions,
+    };
+    Ok(Rc::new(frame.alloc, next)?)
+}
+
+// The use of a goal at a path with no experiment.
+fn at_call(
+    frame: &Frame<'_, '_>,
+    call: &Call,
+    goal: Target,
+    whole: Term,
+    path: Vec<u16>,
+    by: Rc<By>,
+) -> Result<Rc<Call>, AllocError>
+    ensures { IfOk result (λ d. call_of frame.now d.value ≡ record (call_of frame.now call.now) {
+      whole = whole;
+      path = path.items;
+      entries = [];
+      along = None;
+      goal = target_of frame.now goal;
+      by = by_of by.value;
+    }) }
+{
+    let next = Call {
+        whole,
+        path: Rc::new(frame.alloc, path)?,
+        entries: Front::of(frame.alloc, Vec::new(frame.alloc))?,
+        along: None,
+        goal,
+        by,
+        assumptions: call.assumptions,
+    };
     Ok(Rc::new(frame.alloc, next)?)
 }
 

@@ -4,20 +4,18 @@ ghost use Rattle.circ_term.specs.Tree.{sort_of};
 ghost use Rattle.circ_term.specs.Substitution.{instance};
 ghost use Rattle.circ_theory.specs.Derivable.{is_case};
 ghost use Rattle.circ_theory.specs.Observing.{case_list};
-ghost use Rattle.circ_theory.specs.Rewriting.{named};
-ghost use Rattle.circ_proof.specs.Plain.{Split_why, plain_chain};
-ghost use Rattle.circ_proof.specs.Link.{resolved_chain};
 ghost use Rattle.circ_expansion.specs.Pieces.{no_piece};
 ghost use Rattle.circ_expansion.specs.Expand.{around, cases_at, case_basis, stood};
 ghost use Rattle.circ_expansion.specs.Machine.{In_row, Begin_split, End_split, Give_reason};
-ghost use Rattle.circ_expansion.specs.Machine.{reason_step, task_step, all_uses};
+ghost use Rattle.circ_expansion.specs.Machine.{Add_part, task_step, all_uses};
 ghost use Rattle.circ_uses.specs.Uses.{BuildsLast};
 ghost use Rattle.circ_uses.specs.Valuations.{by_of};
 ghost use Rattle.circ_tasks.specs.Tasks.{call_of, basis_of, background_in};
 ghost use Rattle.circ_tasks.specs.Tasks.{reason_job, reasons_job};
 ghost use Rattle.circ_written.specs.Values.{values_of};
-ghost use Rattle.circ_tasks.specs.Tasks.{Steps, StepsAlike, stepped, split_term, why_at, whys_at};
+ghost use Rattle.circ_tasks.specs.Tasks.{Steps, StepsAlike, stepped, split_term, why_at};
 ghost use Rattle.circ_tasks.specs.Tasks.{jobs_of, begun_sides, assumed, case_list_of};
+ghost use Rattle.circ_link_steps.specs.Splits.{GivesSplit, split_jobs, split_stepped};
 
 use circ_proof::{Chain, Why};
 use circ_tasks::{Basis, Call, Frame, Halt, Links, Reason, Reasons, Task, Work, named};
@@ -98,13 +96,35 @@ fn split_step<'a>(
     term: u32,
     whys: &'a [Why],
 ) -> Result<(), Halt>
-    ensures { Steps frame.now (reason_step (all_uses (background_in frame.now))
-        (background_in frame.now) (call_of frame.now reason.entry.call.value)
-        (basis_of frame.now reason.entry.basis.value)
-        (Split_why (resolved_chain frame.now.table.now (plain_chain chain.now))
-        (named frame.now.table.now term) (whys_at frame.now whys.now))
-        reason.entry.left reason.entry.right (jobs_of frame.now work.old)
-        (values_of work.old.values) work.old.left) work.new result }
+    ensures { Steps frame.now (split_stepped frame.now reason.entry chain.now term whys.now
+        (jobs_of frame.now work.old) (values_of work.old.values) work.old.left) work.new result }
+{
+    let split = match split_of(frame, &reason, chain, term, whys) {
+        Ok(split) => split,
+        Err(halt) => return Err(halt),
+    };
+    push_split(frame, work, split)?;
+    begin_sides(
+        frame,
+        work,
+        reason.call,
+        reason.basis,
+        chain,
+        reason.left,
+        reason.right,
+    )?;
+    Ok(())
+}
+
+// The split of a term between the ends of both sides.
+fn split_of<'a>(
+    frame: &Frame<'a, '_>,
+    reason: &Reason<'a>,
+    chain: &'a Chain,
+    term: u32,
+    whys: &'a [Why],
+) -> Result<Reasons<'a>, Halt>
+    ensures { GivesSplit frame.now reason.now chain.now term whys.now result }
 {
     let left = match (&*frame)
         .side(&reason.basis)
@@ -122,26 +142,33 @@ fn split_step<'a>(
     };
     let term = named(frame.table, term)?;
     let constants = constants(frame, &term);
-    work.tasks.push(Task::PutBetween)?;
-    work.tasks.push(Task::Split(Reasons {
-        call: reason.call.clone()?,
-        basis: reason.basis.clone()?,
+    let call = reason.call.clone()?;
+    let basis = reason.basis.clone()?;
+    Ok(Reasons {
+        call,
+        basis,
         whys,
         term,
         all: constants,
         constants,
         left,
         right,
-    }))?;
-    begin_sides(
-        frame,
-        work,
-        reason.call,
-        reason.basis,
-        chain,
-        reason.left,
-        reason.right,
-    )?;
+    })
+}
+
+// The split is next, and then it stands between two rows.
+fn push_split<'a>(
+    frame: &Frame<'a, '_>,
+    work: &mut Work<'a>,
+    split: Reasons<'a>,
+) -> Result<(), AllocError>
+    ensures tasks { OnOk result (jobs_of frame.now work.new ≡
+        split_jobs frame.now split.entry (jobs_of frame.now work.old)) }
+    ensures values { work.new.values ≡ work.old.values }
+    ensures left { work.new.left ≡ work.old.left }
+{
+    work.tasks.push(Task::PutBetween)?;
+    work.tasks.push(Task::Split(split))?;
     Ok(())
 }
 
@@ -169,6 +196,7 @@ pub fn begin_split<'a>(
         (values_of work.old.values) work.old.left) work.new result }
 {
     if work.left == 0 {
+        drop(split);
         return Err(Halt::Long);
     }
     work.left -= 1;
@@ -178,7 +206,10 @@ pub fn begin_split<'a>(
             work.tasks.push(Task::GiveReasons(split))?;
             Ok(())
         }
-        Err(fault) => Err(Halt::Past(fault)),
+        Err(fault) => {
+            drop(split);
+            Err(Halt::Past(fault))
+        }
     }
 }
 
@@ -192,20 +223,24 @@ pub fn reasons_step<'a>(
         (stepped frame.now (reasons_job frame.now reasons.entry) work.old) work.new result }
 {
     let Some((why, whys)) = reasons.whys.split_first() else {
+        drop(reasons);
         work.values.add_no_part()?;
         return Ok(());
     };
     let Some((constant, constants)) = reasons.constants.split_first() else {
+        drop(reasons);
         work.values.add_no_part()?;
         return Ok(());
     };
     let whole = match standing(frame, &reasons) {
         Ok(whole) => whole,
-        Err(fault) => return Err(Halt::Past(fault)),
+        Err(fault) => {
+            drop(reasons);
+            return Err(Halt::Past(fault));
+        }
     };
     let case = case(frame, &reasons, why, *constant, whole)?;
-    work.tasks.push(Task::AddPart)?;
-    work.tasks.push(Task::GiveReasons(Reasons {
+    let rest = Reasons {
         call: reasons.call,
         basis: reasons.basis,
         whys,
@@ -214,8 +249,26 @@ pub fn reasons_step<'a>(
         constants,
         left: reasons.left,
         right: reasons.right,
-    }))?;
-    work.tasks.push(Task::GiveReason(case))?;
+    };
+    give_reasons(frame, work, case, rest)?;
+    Ok(())
+}
+
+// A reason is next, then others, and then they are a part.
+fn give_reasons<'a>(
+    frame: &Frame<'a, '_>,
+    work: &mut Work<'a>,
+    first: Reason<'a>,
+    rest: Reasons<'a>,
+) -> Result<(), AllocError>
+    ensures tasks { OnOk result (jobs_of frame.now work.new ≡ reason_job frame.now first.entry ∷
+        reasons_job frame.now rest.entry ∷ Add_part ∷ jobs_of frame.now work.old) }
+    ensures values { work.new.values ≡ work.old.values }
+    ensures left { work.new.left ≡ work.old.left }
+{
+    work.tasks.push(Task::AddPart)?;
+    work.tasks.push(Task::GiveReasons(rest))?;
+    work.tasks.push(Task::GiveReason(first))?;
     Ok(())
 }
 

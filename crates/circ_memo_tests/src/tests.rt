@@ -25,30 +25,42 @@ fn is_given(given: &Subst, number: u32, sort: u32, term: &Term) -> bool {
 
 // Whether the second of two left sides, of another sort than the first, is found for a variable,
 // and its own variable is given that one.
-fn second_left_is_found(alloc: Global) -> Result<bool, AllocError> {
-    let mut index = RuleIndex::new(alloc);
+fn finds_second_left(index: &mut RuleIndex, term: &Term) -> Result<bool, AllocError>
+    requires { index.old ≡ [] }
+{
     index.add(&Term::var(0, 1))?;
     index.add(&Term::var(0, 0))?;
-    match index.first(0, &Term::var(5, 0))? {
-        Some((number, given)) => Ok(number == 1 && is_given(&given, 0, 0, &Term::var(5, 0))),
+    match index.first(0, term)? {
+        Some((number, given)) => Ok(number == 1 && is_given(&given, 0, 0, term)),
         None => Ok(false),
     }
 }
 
+fn second_left_is_found(alloc: Global) -> Result<bool, AllocError> {
+    let mut index = RuleIndex::new(alloc);
+    let found = finds_second_left(&mut index, &Term::var(5, 0));
+    drop(index);
+    found
+}
+
 // Whether a pair is found turned, and each of its variables is given that of its own sort.
-fn turned_pair_is_found(alloc: Global) -> Result<bool, AllocError> {
-    let mut index = PairIndex::new(alloc);
+fn finds_turned_pair(index: &mut PairIndex, first: &Term, second: &Term) -> Result<bool, AllocError>
+    requires { index.old ≡ [] }
+{
     index.add(&Term::var(0, 0), &Term::var(0, 1))?;
-    match index.first(0, &Term::var(7, 1), &Term::var(7, 0))? {
+    match index.first(0, first, second)? {
         Some((place, given)) => {
-            Ok(
-                place == 1
-                    && is_given(&given, 0, 0, &Term::var(7, 0))
-                    && is_given(&given, 0, 1, &Term::var(7, 1)),
-            )
+            Ok(place == 1 && is_given(&given, 0, 0, second) && is_given(&given, 0, 1, first))
         }
         None => Ok(false),
     }
+}
+
+fn turned_pair_is_found(alloc: Global) -> Result<bool, AllocError> {
+    let mut index = PairIndex::new(alloc);
+    let found = finds_turned_pair(&mut index, &Term::var(7, 1), &Term::var(7, 0));
+    drop(index);
+    found
 }
 
 #[test]
@@ -121,10 +133,17 @@ fn is_spent(alloc: Global, theory: &Theory) -> Result<bool, TermFault> {
     if rules.len() != CONSTANTS as usize {
         return Ok(false);
     }
+    let first = constant(alloc, 0)?;
     let mut memo = Memo::new(alloc, theory, rules)?;
+    let spent = spends(&mut memo, &first);
+    drop(memo);
+    Ok(spent)
+}
+
+fn spends(memo: &mut Memo<'_>, term: &Term) -> bool {
     let mut budget = 1_000_000;
-    let normal = memo.normal(&constant(alloc, 0)?, &mut budget);
-    Ok(matches!(normal, Err(RewriteFault::Spent)) && budget == 0)
+    let normal = memo.normal(term, &mut budget);
+    matches!(normal, Err(RewriteFault::Spent)) && budget == 0
 }
 
 #[test]

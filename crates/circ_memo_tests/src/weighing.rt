@@ -42,37 +42,44 @@ fn is_same(
     first: &Term,
     second: &Term,
 ) -> Result<bool, TermFault> {
-    let mut nodes = Nodes::new(alloc);
-    let mut terms = Terms::new(alloc);
+    is_same_among(alloc, theory, &mut Nodes::new(alloc), op, first, second)
+}
+
+fn is_same_among(
+    alloc: Global,
+    theory: &Theory,
+    nodes: &mut Nodes,
+    op: u32,
+    first: &Term,
+    second: &Term,
+) -> Result<bool, TermFault> {
     let a = nodes.intern(first)?;
     let b = nodes.intern(second)?;
-    Ok(same_content(alloc, theory, &nodes, &mut terms, op, a, b)?)
+    let mut terms = Terms::new(alloc);
+    Ok(same_content(alloc, theory, nodes, &mut terms, op, a, b)?)
+}
+
+// Whether `a, (x, a)` and `(a, a), y` have the same content.
+fn is_same_turned(alloc: Global, theory: &Theory, x: u32, y: u32) -> Result<bool, TermFault> {
+    let right = to_the_right(alloc, 2, x)?;
+    let left = to_the_left(alloc, 2, y)?;
+    is_same(alloc, theory, 2, &right, &left)
+}
+
+// Whether `a, (b, a)` and `a, b` have the same content where repeated summands do not count.
+fn is_same_once(alloc: Global, theory: &Theory) -> Result<bool, TermFault> {
+    let repeated = to_the_right(alloc, 3, 1)?;
+    let once = sum(alloc, 3, constant(alloc, 0)?, constant(alloc, 1)?)?;
+    is_same(alloc, theory, 3, &repeated, &once)
 }
 
 // Whether sums are the same in any order, and not with another summand; repeated ones count, unless
 // they do not.
 fn are_weighed(alloc: Global, theory: &Theory) -> Result<bool, TermFault> {
-    let sum_of_a_and_b = sum(alloc, 3, constant(alloc, 0)?, constant(alloc, 1)?)?;
     Ok(
-        is_same(
-            alloc,
-            theory,
-            2,
-            &to_the_right(alloc, 2, 1)?,
-            &to_the_left(alloc, 2, 1)?,
-        )? && !is_same(
-            alloc,
-            theory,
-            2,
-            &to_the_right(alloc, 2, 1)?,
-            &to_the_left(alloc, 2, 0)?,
-        )? && is_same(
-            alloc,
-            theory,
-            3,
-            &to_the_right(alloc, 3, 1)?,
-            &sum_of_a_and_b,
-        )?,
+        is_same_turned(alloc, theory, 1, 1)?
+            && !is_same_turned(alloc, theory, 1, 0)?
+            && is_same_once(alloc, theory)?,
     )
 }
 

@@ -75,87 +75,134 @@ fn assert_shelf<S: Shelf>(
     name: &str,
     faults: u64,
 ) -> Result<(), Fail> {
-    assert_eq!(rt; shelf.begin("absent"), Err(OuterFault::Failed));
-    assert_eq!(rt; shelf.faults(), faults);
-    shelf.put(name, TEXT.as_bytes())?;
-    let bytes = take_all(rt.alloc(), shelf, name)?;
-    assert_eq!(rt; bytes.as_slice(), TEXT.as_bytes());
-    shelf.put(name, b"new")?;
-    let bytes = take_all(rt.alloc(), shelf, name)?;
-    assert_eq!(rt; bytes.as_slice(), b"new".as_slice());
-    assert_eq!(rt; shelf.faults(), faults);
+    assert!(rt; shelf.begin("absent") == Err(OuterFault::Failed));
+    assert!(rt; shelf.faults() == faults);
+    assert_gives(rt, shelf, name, TEXT.as_bytes())?;
+    assert_gives(rt, shelf, name, b"new")?;
+    assert!(rt; shelf.faults() == faults);
+    Ok(())
+}
+
+/// What is put is taken again.
+fn assert_gives<S: Shelf>(
+    rt: &(impl Abort + AllocGlobal),
+    shelf: &mut S,
+    name: &str,
+    bytes: &[u8],
+) -> Result<(), Fail> {
+    shelf.put(name, bytes)?;
+    let taken = take_all(rt.alloc(), shelf, name)?;
+    assert!(rt; taken.as_slice() == bytes);
     Ok(())
 }
 
 #[test]
 fn shelves_give_what_was_put(rt: HostRuntime) -> Result<(), Fail> {
-    let mut memory = MemoryShelf::new(rt.alloc(), 3);
-    memory.add("kept", b"kept")?;
-    assert_shelf(&rt, &mut memory, "a", 0)?;
-    assert!(rt; is_held(memory.get("kept"), b"kept"));
-    assert!(rt; is_held(memory.get("a"), b"new"));
-    assert!(rt; memory.get("absent").is_none());
+    assert_memory(&rt, &mut MemoryShelf::new(rt.alloc(), 3))?;
+    assert_sure(&rt, &mut SureShelf::new(rt.alloc(), 3))
+}
 
-    let mut sure = SureShelf::new(rt.alloc(), 3);
-    sure.add("kept", b"kept")?;
-    assert_shelf(&rt, &mut sure, "a", 0)?;
-    assert!(rt; is_held(sure.get("kept"), b"kept"));
-    assert!(rt; is_held(sure.get("a"), b"new"));
-    assert!(rt; sure.get("absent").is_none());
+fn assert_memory(rt: &(impl Abort + AllocGlobal), shelf: &mut MemoryShelf) -> Result<(), Fail> {
+    shelf.add("kept", b"kept")?;
+    assert_shelf(rt, shelf, "a", 0)?;
+    assert!(rt; is_held(shelf.get("kept"), b"kept"));
+    assert!(rt; is_held(shelf.get("a"), b"new"));
+    assert!(rt; shelf.get("absent").is_none());
     Ok(())
 }
 
+fn assert_sure(rt: &(impl Abort + AllocGlobal), shelf: &mut SureShelf) -> Result<(), Fail> {
+    shelf.add("kept", b"kept")?;
+    assert_shelf(rt, shelf, "a", 0)?;
+    assert!(rt; is_held(shelf.get("kept"), b"kept"));
+    assert!(rt; is_held(shelf.get("a"), b"new"));
+    assert!(rt; shelf.get("absent").is_none());
+    Ok(())
+}
+
+/// The calls that fail, by the call that is to fail. A begin that fails leaves no piece to take, so
+/// that the put is the second call.
+const FAILED_CALLS: [(u64, &[u64]); 4] = [(1, &[1]), (2, &[2]), (3, &[3]), (4, &[])];
+
 #[test]
 fn listed_calls_fail(rt: HostRuntime) -> Result<(), Fail> {
-    for call in 1..=4 {
-        let mut shelf = MemoryShelf::new(rt.alloc(), 3);
-        shelf.add("a", TEXT.as_bytes())?;
-        shelf.fail_at(call)?;
-        // A begin that fails leaves no piece to take, so that the put is the second call.
-        let want = [[1].as_slice(), &[2], &[3], &[]];
-        let failed = failed_calls(rt.alloc(), &mut shelf)?;
-        assert_eq!(rt;
-            Some(&failed.as_slice()),
-            want.get(call as usize - 1),
-            "call {call}"
-        );
-        assert_eq!(rt; shelf.faults(), failed.len() as u64, "call {call}");
-        assert_eq!(rt; shelf.get("b").is_some(), call != 3, "call {call}");
+    for (call, want) in FAILED_CALLS {
+        assert_failed(&rt, &mut MemoryShelf::new(rt.alloc(), 3), call, want)?;
     }
+    Ok(())
+}
+
+fn assert_failed(
+    rt: &(impl Abort + AllocGlobal),
+    shelf: &mut MemoryShelf,
+    call: u64,
+    want: &[u64],
+) -> Result<(), Fail> {
+    shelf.add("a", TEXT.as_bytes())?;
+    shelf.fail_at(call)?;
+    let failed = failed_calls(rt.alloc(), shelf)?;
+    let are_counted = shelf.faults() == want.len() as u64;
+    let is_put = shelf.get("b").is_some() == (call != 3);
+    assert!(rt;
+        failed.as_slice() == want && are_counted && is_put,
+        "call {call}"
+    );
     Ok(())
 }
 
 #[test]
 fn sinks_take_what_they_may(rt: HostRuntime) -> Result<(), Fail> {
     for (call, want) in [(1, ""), (2, "abc"), (3, "abcdef"), (4, TEXT)] {
-        let mut sink = MemorySink::new(rt.alloc(), 3);
-        sink.fail_at(call)?;
-        let written = write_all(&mut sink, TEXT.as_bytes());
-        assert_eq!(rt; written.is_ok(), call == 4, "call {call}");
-        assert_eq!(rt; sink.faults() == 0, call == 4, "call {call}");
-        assert_eq!(rt; sink.bytes(), want.as_bytes(), "call {call}");
+        assert_taken(&rt, &mut MemorySink::new(rt.alloc(), 3), call, want)?;
     }
-    let mut sink = SureSink::new(rt.alloc(), 3);
-    write_all(&mut sink, TEXT.as_bytes())?;
-    assert_eq!(rt; sink.bytes(), TEXT.as_bytes());
-    assert_eq!(rt; sink.faults(), 0);
+    assert_all_taken(&rt, &mut SureSink::new(rt.alloc(), 3))
+}
+
+fn assert_taken(rt: &impl Abort, sink: &mut MemorySink, call: u64, want: &str) -> Result<(), Fail> {
+    sink.fail_at(call)?;
+    let is_written = write_all(sink, TEXT.as_bytes()).is_ok();
+    let is_faultless = sink.faults() == 0;
+    assert!(rt;
+        is_written == (call == 4) && is_faultless == is_written,
+        "call {call}"
+    );
+    assert!(rt; sink.bytes() == want.as_bytes(), "call {call}");
+    Ok(())
+}
+
+fn assert_all_taken(rt: &impl Abort, sink: &mut SureSink) -> Result<(), Fail> {
+    write_all(sink, TEXT.as_bytes())?;
+    assert!(rt; sink.bytes() == TEXT.as_bytes());
+    assert!(rt; sink.faults() == 0);
     Ok(())
 }
 
 #[test]
 fn real_files_are_read_back(rt: HostRuntime) -> Result<(), Fail> {
-    let folder = env::temp_dir(&rt)?.into_string();
-    let id = process::id(rt.process());
-    let path = format!(in rt.alloc(); "{folder}/circ_outer_test_{id}")?;
+    let path = new_path(&rt)?;
     let mut shelf = HostShelf::new(rt.clone()?);
-    assert_shelf(&rt, &mut shelf, path.as_str(), 1)?;
-    fs::remove_file(&rt, path.as_str())?;
+    assert_real_files(&rt, &mut shelf, path.as_str())
+}
+
+/// The path of a file for a test.
+fn new_path(rt: &HostRuntime) -> io::Result<String> {
+    let folder = env::temp_dir(rt)?.into_string();
+    let id = process::id(rt.process());
+    Ok(format!(in rt.alloc(); "{folder}/circ_outer_test_{id}")?)
+}
+
+fn assert_real_files(
+    rt: &(impl Abort + fs::Files + AllocGlobal),
+    shelf: &mut HostShelf<HostRuntime>,
+    path: &str,
+) -> Result<(), Fail> {
+    assert_shelf(rt, shelf, path, 1)?;
+    fs::remove_file(rt, path)?;
     // A folder is no file, to read or to write.
-    let read = take_all(rt.alloc(), &mut shelf, "/");
-    assert!(rt; read.is_err());
-    assert_eq!(rt; shelf.faults(), 2);
-    assert_eq!(rt; shelf.put("/", b"new"), Err(OuterFault::Failed));
-    assert_eq!(rt; shelf.faults(), 3);
+    assert!(rt; take_all(rt.alloc(), shelf, "/").is_err());
+    assert!(rt; shelf.faults() == 2);
+    assert!(rt; shelf.put("/", b"new") == Err(OuterFault::Failed));
+    assert!(rt; shelf.faults() == 3);
     Ok(())
 }
 
@@ -163,16 +210,16 @@ fn real_files_are_read_back(rt: HostRuntime) -> Result<(), Fail> {
 fn standard_output_takes_bytes(rt: HostRuntime) -> Result<(), Fail> {
     let mut sink = HostSink::new(rt.clone()?);
     write_all(&mut sink, b"written by a test\n")?;
-    assert_eq!(rt; sink.faults(), 0);
+    assert!(rt; sink.faults() == 0);
     Ok(())
 }
 
 #[test]
 fn closed_output_is_a_fault(rt: HostRuntime) -> Result<(), Fail> {
     let mut sink = HostSink::new(ClosedOutput);
-    assert_eq!(rt; write_all(&mut sink, b"lost"), Err(OuterFault::Failed));
-    assert_eq!(rt; sink.faults(), 1);
-    assert_eq!(rt; write_all(&mut sink, b""), Ok(()));
-    assert_eq!(rt; sink.faults(), 1);
+    assert!(rt; write_all(&mut sink, b"lost") == Err(OuterFault::Failed));
+    assert!(rt; sink.faults() == 1);
+    assert!(rt; write_all(&mut sink, b"") == Ok(()));
+    assert!(rt; sink.faults() == 1);
     Ok(())
 }

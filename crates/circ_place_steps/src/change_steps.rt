@@ -4,12 +4,13 @@ ghost use Rattle.circ_term.specs.Tree.{Tree, at};
 ghost use Rattle.circ_term.specs.Substitution.{instance};
 ghost use Rattle.circ_expansion.specs.Pieces.{Pieces};
 ghost use Rattle.circ_expansion.specs.Expand.{By_entry, entry_in, guard_case, places_on, Visible_case};
-ghost use Rattle.circ_expansion.specs.Machine.{Value, In_row};
+ghost use Rattle.circ_expansion.specs.Machine.{Value, In_row, Enter_use, Put_behind};
 ghost use Rattle.circ_uses.specs.Guards.{plain_guard};
 ghost use Rattle.circ_uses.specs.Uses.{held_by, layers_of, entries_of};
 ghost use Rattle.circ_uses.specs.Valuations.{by_of};
 ghost use Rattle.circ_written.specs.Values.{values_of};
-ghost use Rattle.circ_tasks.specs.Tasks.{Steps, stepped};
+ghost use Rattle.circ_theory.specs.declared.way.Way.TheVariants.{Forth};
+ghost use Rattle.circ_tasks.specs.Tasks.{Steps, stepped, call_of, jobs_of};
 ghost use Rattle.circ_tasks.specs.Tasks.{changes_job, layers_in, change_stepped, FindsCase, IsAlong};
 ghost use Rattle.circ_tasks.specs.declared.calls.Frame.{Frame as TheFrame};
 
@@ -30,13 +31,25 @@ pub fn changes_step<'a>(
     ensures { Steps frame.now (stepped frame.now (changes_job frame.now changes here) work.old)
         work.new result }
 {
+    next_change(frame, work, &changes, here)
+}
+
+fn next_change<'a>(
+    frame: &Frame<'a, '_>,
+    work: &mut Work<'a>,
+    changes: &Changes,
+    here: Term,
+) -> Result<(), Halt>
+    ensures { Steps frame.now (stepped frame.now (changes_job frame.now changes.now here) work.old)
+        work.new result }
+{
     if !work.values.ends_in_row() {
         return Err(Halt::Stopped);
     }
     let Some(path) = changes.paths.get(changes.done) else {
         return Ok(());
     };
-    change(frame, work, &changes, path.as_slice(), here)
+    change(frame, work, changes, path.as_slice(), here)
 }
 
 /// The first occurrence, in an instance that is made only where there is one.
@@ -49,6 +62,18 @@ pub fn first_step<'a>(
     ensures { Steps frame.now (stepped frame.now (changes_job frame.now changes
         (instance (by_of by.now) changes.last)) work.old) work.new result }
 {
+    first_change(frame, work, &changes, by)
+}
+
+fn first_change<'a>(
+    frame: &Frame<'a, '_>,
+    work: &mut Work<'a>,
+    changes: &Changes,
+    by: &By,
+) -> Result<(), Halt>
+    ensures { Steps frame.now (stepped frame.now (changes_job frame.now changes.now
+        (instance (by_of by.now) changes.now.last)) work.old) work.new result }
+{
     if !work.values.ends_in_row() {
         return Err(Halt::Stopped);
     }
@@ -56,7 +81,7 @@ pub fn first_step<'a>(
         return Ok(());
     };
     match by.apply(frame.alloc, &changes.last) {
-        Ok(here) => change(frame, work, &changes, path.as_slice(), here),
+        Ok(here) => change(frame, work, changes, path.as_slice(), here),
         Err(fault) => Err(Halt::Past(fault)),
     }
 }
@@ -95,10 +120,27 @@ fn change<'a>(
     let Some(call) = occurrence_call(frame, changes, whole, path, &here, guard)? else {
         return Err(Halt::Stopped);
     };
-    work.tasks.push(Task::NextChange {
-        changes: changes.after()?,
-        here: next,
-    })?;
+    push_change(frame, work, changes, next, call)?;
+    Ok(())
+}
+
+// The use for an occurrence is next, and then the occurrences after it, in this term.
+fn push_change<'a>(
+    frame: &Frame<'a, '_>,
+    work: &mut Work<'a>,
+    changes: &Changes,
+    here: Term,
+    call: Rc<Call>,
+) -> Result<(), AllocError>
+    ensures tasks { OnOk result (jobs_of frame.now work.new ≡
+        Enter_use (call_of frame.now call.value) ∷ Put_behind Forth ∷
+        changes_job frame.now (record changes.now { done = changes.now.done + 1 }) here ∷
+        jobs_of frame.now work.old) }
+    ensures values { work.new.values ≡ work.old.values }
+    ensures left { work.new.left ≡ work.old.left }
+{
+    let changes = changes.after()?;
+    work.tasks.push(Task::NextChange { changes, here })?;
     work.tasks.push(Task::PutBehind(Way::Forth))?;
     work.tasks.push(Task::EnterUse(call))?;
     Ok(())
@@ -164,13 +206,16 @@ fn visible_call(
     ensures { IfOk result (FindsCase frame.now changes.now whole above.now here.now
         (Visible_case number above.now)) }
 {
+    let list = entry_at(frame, number, here, above)?;
+    let entries = Front::of(frame.alloc, list)?;
+    let below = frame.below(&changes.call, above)?;
+    let path = Rc::new(frame.alloc, below)?;
+    let layers = changes.layers.share()?;
     let mut next = changes.call.share()?;
     next.whole = whole;
-    let entries = entry_at(frame, number, here, above)?;
-    let path = frame.below(&changes.call, above)?;
-    next.path = Rc::new(frame.alloc, path)?;
-    next.entries = Front::of(frame.alloc, entries)?;
-    next.along = Some(changes.layers.share()?);
+    next.path = path;
+    next.entries = entries;
+    next.along = Some(layers);
     Ok(Some(Rc::new(frame.alloc, next)?))
 }
 

@@ -7,7 +7,7 @@ ghost use Rattle.circ_expansion.specs.Pieces.{no_piece};
 ghost use Rattle.circ_expansion.specs.Expand.{Layer as TheLayer, By_entry, arg_sort, layered, risen};
 ghost use Rattle.circ_expansion.specs.Expand.{start_at};
 ghost use Rattle.circ_entry.specs.Entries.{derivative_at};
-ghost use Rattle.circ_expansion.specs.Machine.{In_row};
+ghost use Rattle.circ_expansion.specs.Machine.{In_row, Empty_row};
 ghost use Rattle.circ_uses.specs.Uses.{layer_by, layers_of, held_by, entries_of, BuildsLast};
 ghost use Rattle.circ_uses.specs.Valuations.{by_of};
 ghost use Rattle.circ_uses.specs.Fronts.{front};
@@ -42,6 +42,20 @@ pub fn place_step<'a>(
     ensures { Steps frame.now (place_stepped frame.now call.value term.now arg
         (layers_of frame.now.theory.now (front layers.now)) work.old) work.new result }
 {
+    step_at(frame, work, &call, term, arg, layers)
+}
+
+fn step_at<'a>(
+    frame: &Frame<'a, '_>,
+    work: &mut Work<'a>,
+    call: &Rc<Call>,
+    term: &Term,
+    arg: u16,
+    layers: &Front<Layer>,
+) -> Result<(), Halt>
+    ensures { Steps frame.now (place_stepped frame.now call.now.value term.now arg
+        (layers_of frame.now.theory.now (front layers.now)) work.old) work.new result }
+{
     let Some(entry) = call.entries.cut()? else {
         return Err(Halt::Stopped);
     };
@@ -51,14 +65,14 @@ pub fn place_step<'a>(
         Err(fault) => return Err(Halt::Past(fault)),
     };
     let through = through(frame, layers, term, arg, &entry.last)?;
-    let ends = match ends(frame, &call, &certificate.start, layers, through.as_slice()) {
+    let ends = match ends(frame, call, &certificate.start, layers, through.as_slice()) {
         Ok(ends) => ends,
         Err(fault) => return Err(Halt::Past(fault)),
     };
     begin_place(
         frame,
         work,
-        &call,
+        call,
         place,
         layers,
         &entry.rest,
@@ -244,15 +258,54 @@ fn begin_place<'a>(
 {
     work.values.add_empty()?;
     work.tasks.push(Task::PutBetween)?;
+    push_changes(frame, work, call, place, layers, entries, certificate, ends)?;
+    push_side(frame, work, call, entries, certificate, &ends.right)?;
+    push_side(frame, work, call, entries, certificate, &ends.left)?;
+    Ok(())
+}
+
+// The occurrences are next.
+fn push_changes<'a>(
+    frame: &Frame<'a, '_>,
+    work: &mut Work<'a>,
+    call: &Call,
+    place: Place,
+    layers: &Front<Layer>,
+    entries: &Front<Held>,
+    certificate: &Certificate<'a>,
+    ends: &Ends,
+) -> Result<(), AllocError>
+    ensures tasks { OnOk result (jobs_of frame.now work.new ≡ occurrences_job frame.now
+        call.now place (layers_of frame.now.theory.now (front layers.now))
+        (entries_of frame.now.theory.now (front entries.now)) certificate.now ends.now ∷
+        jobs_of frame.now work.old) }
+    ensures values { work.new.values ≡ work.old.values }
+    ensures left { work.new.left ≡ work.old.left }
+{
     let changes = changes(frame, call, place, layers, entries, certificate, ends)?;
     let by = ends.left.clone()?;
     work.tasks.push(Task::FirstChange { changes, by })?;
+    Ok(())
+}
+
+// The links of the certificate under a substitution are next, before which a row begins.
+fn push_side<'a>(
+    frame: &Frame<'a, '_>,
+    work: &mut Work<'a>,
+    call: &Call,
+    entries: &Front<Held>,
+    certificate: &Certificate<'a>,
+    by: &Rc<By>,
+) -> Result<(), AllocError>
+    ensures tasks { OnOk result (jobs_of frame.now work.new ≡ certificate_job frame.now call.now
+        (entries_of frame.now.theory.now (front entries.now)) certificate.now by.now.value ∷
+        Empty_row ∷ jobs_of frame.now work.old) }
+    ensures values { work.new.values ≡ work.old.values }
+    ensures left { work.new.left ≡ work.old.left }
+{
     work.tasks.push(Task::EmptyRow)?;
-    let right = side_of(frame, call, entries, certificate, &ends.right)?;
-    work.tasks.push(Task::Links(right))?;
-    work.tasks.push(Task::EmptyRow)?;
-    let left = side_of(frame, call, entries, certificate, &ends.left)?;
-    work.tasks.push(Task::Links(left))?;
+    let side = side_of(frame, call, entries, certificate, by)?;
+    work.tasks.push(Task::Links(side))?;
     Ok(())
 }
 
@@ -272,15 +325,21 @@ fn changes<'a>(
         (entries_of frame.now.theory.now (front entries.now)) certificate.now ends.now) }
     ensures last { IfOk result (λ x. x.last ≡ certificate.now.last) }
 {
-    let paths = paths_of(frame.alloc, &certificate.last, 0, arg_sort(frame, place))?;
+    let found = paths_of(frame.alloc, &certificate.last, 0, arg_sort(frame, place))?;
+    let paths = Rc::new(frame.alloc, found)?;
+    let layers = layers.share()?;
+    let to = ends.new.share()?;
+    let last = certificate.last.share()?;
+    let held = entries.share()?;
     let mut middle = call.share()?;
-    middle.entries = entries.share()?;
+    middle.entries = held;
+    let call = Rc::new(frame.alloc, middle)?;
     Ok(Changes {
-        call: Rc::new(frame.alloc, middle)?,
-        layers: layers.share()?,
-        new: ends.new.share()?,
-        last: certificate.last.share()?,
-        paths: Rc::new(frame.alloc, paths)?,
+        call,
+        layers,
+        new: to,
+        last,
+        paths,
         done: 0,
     })
 }
@@ -296,14 +355,19 @@ fn side_of<'a>(
     ensures { IfOk result (λ l. links_job frame.now l ≡ certificate_job frame.now call.now
         (entries_of frame.now.theory.now (front entries.now)) certificate.now by.now.value) }
 {
+    let basis = certificate.basis.clone()?;
+    let term = certificate.start.share()?;
+    let held = entries.share()?;
+    let given = by.clone()?;
     let mut side = call.share()?;
-    side.entries = entries.share()?;
-    side.by = by.clone()?;
+    side.entries = held;
+    side.by = given;
+    let call = Rc::new(frame.alloc, side)?;
     Ok(Links {
-        call: Rc::new(frame.alloc, side)?,
-        basis: certificate.basis.clone()?,
+        call,
+        basis,
         links: certificate.links,
-        term: certificate.start.share()?,
+        term,
     })
 }
 

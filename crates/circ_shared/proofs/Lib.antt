@@ -10,3 +10,4 @@ mod Using
 mod Steps
 mod Meets
 pub mod Cases
+mod Lighter

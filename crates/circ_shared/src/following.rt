@@ -15,6 +15,7 @@ ghost use Rattle.circ_shared.specs.Patterns.{pair_at, pairs_at, IsThere, AreTher
 ghost use Rattle.circ_shared.specs.Settings.{AreShared, setting_at, table_at};
 ghost use Rattle.circ_shared.specs.Chains.{FollowsSides};
 
+use crate::lightening::{lightened, room_for};
 use crate::patterns::Sides;
 use crate::usage::{Sources, chains};
 use circ_nodes::Nodes;
@@ -43,10 +44,12 @@ impl Sources<'_> {
             (resolved_links (table_at nodes.old self.now) (plain_links links.now))
             (tree_at nodes.old term))) }
     {
+        let count = nodes.len();
+        let mut room = room_for(nodes);
         let mut here = term;
         for link in links {
             match self.follow(nodes, assumptions, link, here)? {
-                Some(next) => here = next,
+                Some(next) => here = lightened(self.alloc, nodes, count, &mut room, next)?,
                 None => return Ok(None),
             }
         }

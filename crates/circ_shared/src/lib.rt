@@ -14,6 +14,7 @@ mod binding;
 mod following;
 mod instances;
 mod justifying;
+mod lightening;
 mod patterns;
 mod placing;
 mod rewriting;

@@ -7,12 +7,11 @@ use Rattle.std.specs.List.{slice_get, filter, AllByRecursion}
 use Rattle.std.specs.Option.{IfSome, option_map, option_map_or}
 use Rattle.circ_term.specs.Growing.{Grows}
 use Rattle.circ_term.specs.Tree.{Tree, sort_of}
-use Rattle.circ_term.specs.Limits.{first_limit, IsWithinLimits, Names}
+use Rattle.circ_term.specs.Limits.{IsWithinLimits}
 use Rattle.circ_term.specs.Substitution.{Substitution, instance}
 use Rattle.circ_term.specs.declared.fault.TermFault.{TermFault}
-use Rattle.circ_term.specs.declared.fault.TermFault.TheVariants as term
 use Rattle.circ_term.proofs.Instances.{instance-same}
-use Rattle.circ_theory.specs.Theory.{Theory, Derivative, Pair, goal}
+use Rattle.circ_theory.specs.Theory.{Theory, Derivative, goal}
 use Rattle.circ_theory.specs.Variables.{numbered, given}
 use Rattle.circ_theory.specs.Experiment.{plug, derived}
 use Rattle.circ_theory.specs.Theory.{IsHidden}

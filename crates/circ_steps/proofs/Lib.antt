@@ -3,8 +3,8 @@ mod Fronts
 mod Splitting
 mod Entering
 mod Fresh
-mod Numbering
-mod Deriving
-mod Finished
+pub mod Numbering
+pub mod Deriving
+mod Applied
 mod Lines
 mod Cutting

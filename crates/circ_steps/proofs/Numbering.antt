@@ -1,12 +1,12 @@
 -- Variables, terms and derivatives by number.
-use Rattle.std.proofs.Common.{◌≡◌, ◌<◌, ◌≤◌, ℕ, zero, suc, ◌+◌, Bool, true, false, ◌==◌, ◌&&◌, if◌then◌else◌, List, [], ◌∷◌, ◌++◌, map, drop, length, get_or, Option, Some, None, refl, ap, sym, subst, ◌∙◌, arith}
+use Rattle.std.proofs.Common.{◌≡◌, ◌<◌, ◌≤◌, ℕ, zero, suc, ◌+◌, List, [], ◌∷◌, ◌++◌, map, drop, length, get_or, Option, Some, None, refl, ap, sym, subst, ◌∙◌, arith}
 use Rattle.std.specs.List.{slice_get, AllByRecursion}
 use Rattle.std.specs.Option.{IfSome}
 use Rattle.std.proofs.lemmas.Option.{same_Some}
 use Rattle.circ_term.specs.Growing.{Grows}
-use Rattle.circ_term.specs.Tree.{Tree, Trees, Var, none, more, list_of, trees_of, sort_of}
+use Rattle.circ_term.specs.Tree.{Tree, Var, more, trees_of, sort_of}
 use Rattle.circ_theory.specs.Theory.{Derivative}
-use Rattle.circ_theory.specs.Variables.{Variable, FitVariables, numbered, given}
+use Rattle.circ_theory.specs.Variables.{FitVariables, numbered}
 use Rattle.circ_theory.specs.Fresh.{variables_from, FitDerivative, FitSome}
 use Rattle.circ_nodes.specs.Named.{IsNamed, AreNamed, tree_at}
 use Rattle.circ_nodes.proofs.Located.{named_tree}

@@ -1,5 +1,5 @@
 -- States of proofs by number.
-use Rattle.std.specs.Prelude.{List, [], ◌∷◌, map}
+use Rattle.std.specs.Prelude.{◌≡◌, List, [], ◌∷◌, ◌++◌, map}
 use Rattle.std.specs.List.{AllByRecursion}
 use Rattle.circ_term.specs.Tree.{Tree}
 use Rattle.circ_theory.specs.Theory.{goal}
@@ -7,6 +7,7 @@ use Rattle.circ_theory.specs.declared.parts.Goal.{Goal}
 use Rattle.circ_proof.specs.Rules.{State, state}
 use Rattle.circ_nodes.specs.Named.{tree_at}
 use Rattle.circ_shared.specs.Patterns.{pairs_at, goal_at, IsThere, AreThere, IsPattern}
+use Rattle.circ_shared.specs.declared.patterns.Pattern.{Pattern}
 use Rattle.circ_shared.specs.declared.patterns.Sides.{Sides}
 use Rattle.circ_steps.specs.declared.states.SharedGoal.{SharedGoal}
 use Rattle.circ_steps.specs.declared.states.SharedState.{SharedState}
@@ -34,3 +35,7 @@ pub record IsStateThere (nodes : List Tree) (s : SharedState) : Type 0 where
 abbrev pub with_sides : Sides → List SharedGoal → List SharedGoal
 with_sides s [] = []
 with_sides s (g ∷ gs) = record g { sides = s } ∷ gs
+
+-- some were added at the end
+abbrev pub Extends : (old new : List Pattern) → Type 0
+Extends old new = (added : List Pattern) × (new ≡ old ++ added)

@@ -37,6 +37,7 @@ impl Rules<'_> {
         requires state { IsStateThere nodes.old state.old }
         ensures grows { Grows nodes.old nodes.new }
         ensures state { IsStateThere nodes.new state.new }
+        ensures hyps { state.new.hyps ≡ state.old.hyps }
         ensures exact { IfOk result (Applies self.now.theory.now self.now.gamma.now
             (Cases (named (terms_at nodes.old self.now) term))
             (state_at nodes.old state.old) (state_at nodes.new state.new)) }

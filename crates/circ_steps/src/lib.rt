@@ -7,10 +7,10 @@
 //! numbers of a table's terms.
 #![tactic(auto)]
 
+mod applying;
 mod cases;
 mod derivative;
 mod derive;
-mod ending;
 mod rules;
 mod sharing;
 mod states;

@@ -47,6 +47,7 @@ impl Rules<'_> {
         requires state { IsStateThere nodes.old state.old }
         ensures grows { Grows nodes.old nodes.new }
         ensures state { IsStateThere nodes.new state.new }
+        ensures hyps { state.new.hyps ≡ state.old.hyps }
         ensures exact { IfOk result (Applies self.now.theory.now self.now.gamma.now
             (Simplify (resolved_chain (terms_at nodes.old self.now) (plain_chain chain.now)))
             (state_at nodes.old state.old) (state_at nodes.new state.new)) }
@@ -86,6 +87,7 @@ impl Rules<'_> {
         requires state { IsStateThere nodes.old state.old }
         ensures same { nodes.new ≡ nodes.old }
         ensures state { IsStateThere nodes.old state.new }
+        ensures hyps { state.new.hyps ≡ state.old.hyps }
         ensures exact { IfOk result (Applies self.now.theory.now self.now.gamma.now
             (Reduce (resolved_why (terms_at nodes.old self.now) (plain_why why.now)))
             (state_at nodes.old state.old) (state_at nodes.old state.new)) }

@@ -1,18 +1,17 @@
-use Rattle.std.proofs.Common.{◌≡◌, ◌-◌, ◌∷◌, map, refl, ap, sym, ◌∙◌, subst, arith}
+use Rattle.std.proofs.Common.{◌≡◌, ◌-◌, map, ap, sym, ◌∙◌, subst, arith}
 use Rattle.circ_term.specs.Tree.{list_of, trees_of}
 use Rattle.circ_term.specs.Limits.{Names, first_limit, first_limits}
 use Rattle.circ_term.specs.Substitution.{instance, instances}
 use Rattle.circ_theory.specs.Rewriting.{named, by_terms}
 use Rattle.circ_expansion.specs.Followed.{goal_in}
 use Rattle.circ_expansion.specs.Expand.{around, followed_at, start_of}
-use Rattle.circ_expansion.specs.Machine.{Enter_use, Put_behind}
+use Rattle.circ_written.specs.Values.{values_of}
 use Rattle.circ_tasks.specs.Tasks.{call_of, basis_of, target_of, background_in, hypothesised, used}
 use Rattle.circ_uses.specs.Valuations.{by_of}
 use Rattle.circ_tasks.specs.declared.calls.Call.{Call}
-use Rattle.circ_tasks.specs.declared.tasks.Task.TheVariants as task
 use Rattle.circ_tasks.specs.declared.tasks.Work.{Work}
 use Rattle.circ_tasks.proofs.Advancing.{used_past, used_whole_past, used_on, instances_within, instances_listed}
-use Rattle.circ_tasks.proofs.Stepping.{counted_none, jobs_pushed, limits_listed}
+use Rattle.circ_tasks.proofs.Stepping.{counted_none, limits_listed}
 use Rattle.circ_link_steps.proofs.link_steps.use_hypothesis.Goals as goal
 
 pub returns-then-work-eq0 : goal.returns-then-work-eq0
@@ -50,7 +49,7 @@ returns c =
     let u = c.args.used in
     let m = c.args.more in
     let d = call_of fr m.call.value in
-    let new : Work = record w { tasks = c.push-3.new.self; left = w.left - 1 } in
+    let new : Work = c.push_use.new.work in
     let ts = map (named fr.table.now) u.terms.now in
     let us = map (instance d.by) ts in
     let q = followed_at (basis_of fr m.basis.value).hypotheses u.number in
@@ -67,9 +66,6 @@ returns c =
     c.in_ok-call.ensures
     ∙ ap (λ k. used (background_in fr) (call_of fr k) (target_of fr c.hypothesis-target.result) c.start_of-whole.result c.args.standing.now u.path.now (by_of c.in_ok-by.by.value)) c.deref-4.ensures
     ∙ (λ i. used (background_in fr) d (target i) (whole i) c.args.standing.now u.path.now (by i)) in
-    let first = jobs_pushed fr w.tasks.items c.push.new.self.items (task.Links m) c.in_ok-push.ensures.items in
-    let second = jobs_pushed fr c.push.new.self.items c.push-2.new.self.items (task.PutBehind u.way) c.in_ok-push-2.ensures.items in
-    let third = jobs_pushed fr c.push-2.new.self.items c.push-3.new.self.items (task.EnterUse c.in_ok-call.call) c.in_ok-push-3.ensures.items in
-    used_on fr w new m u.number u.way u.path.now ts c.args.standing.now c.args.before (call_of fr c.in_ok-call.call.value) (omega (arith, c.if-work-eq0.false))
+    used_on fr w new m u.number u.way u.path.now ts c.args.standing.now c.args.before (call_of fr c.in_ok-call.call.value) (omega (arith, c.if-work-eq0.false, c.push_use.ensures.left))
     (instances_within d.by ts within) (ap (λ k. first_limit (around (call_of fr k) m.term)) (sym c.deref-2.ensures) ∙ c.in-Ok-around.ensures.1) is
-    (third ∙ ap (λ js. Enter_use (call_of fr c.in_ok-call.call.value) ∷ js) (second ∙ ap (λ js. Put_behind u.way ∷ js) first)) refl
+    c.in_ok-push_use.ensures.tasks (ap values_of c.push_use.ensures.values)

@@ -1,13 +1,12 @@
-use Rattle.std.proofs.Common.{◌∷◌, suc, refl, ap, sym, ◌∙◌}
+use Rattle.std.proofs.Common.{suc, refl, ap, sym, ◌∙◌}
 use Rattle.circ_expansion.specs.Expand.{Yields}
 use Rattle.circ_expansion.specs.Machine.{pending, Give_reason}
 use Rattle.circ_tasks.specs.Tasks.{call_of, jobs_of, pending_of, reasons_job, reason_job, stepped, why_at, assumed}
-use Rattle.circ_tasks.specs.declared.tasks.Reasons.{Reasons}
-use Rattle.circ_tasks.specs.declared.tasks.Task.TheVariants as task
+use Rattle.circ_written.specs.Values.{values_of}
 use Rattle.circ_tasks.specs.declared.tasks.Work.{Work}
 use Rattle.circ_tasks.proofs.Counting.{no_items}
 use Rattle.circ_link_steps.proofs.Parting.{reasons_end, constants_end, case_first, case_goes, case_terms, case_pending, case_side}
-use Rattle.circ_tasks.proofs.Stepping.{jobs_pushed, halts_past, names_tests}
+use Rattle.circ_tasks.proofs.Stepping.{halts_past, names_tests}
 use Rattle.circ_link_steps.proofs.reason_steps.reasons_step.Goals as goal
 
 pub returns-in_default : goal.returns-in_default
@@ -53,12 +52,7 @@ returns c =
     let xs = c.in-Some.whys.now in
     let k = c.in-Some-split_first.constant.now in
     let ks = c.in-Some-split_first.constants.now in
-    let new : Work = record w { tasks = c.push-3.new.self } in
-    let rest : Reasons = record r { whys = c.in-Some.whys; constants = c.in-Some-split_first.constants } in
-    let first = jobs_pushed fr w.tasks.items c.push.new.self.items task.AddPart c.in_ok-push.ensures.items in
-    let second = jobs_pushed fr c.push.new.self.items c.push-2.new.self.items (task.GiveReasons rest) c.in_ok-push-2.ensures.items in
-    let third = jobs_pushed fr c.push-2.new.self.items c.push-3.new.self.items (task.GiveReason c.in_ok-case.case) c.in_ok-push-3.ensures.items in
-    case_goes fr r w new x xs k ks (reason_job fr c.in_ok-case.case) c.in-Some.ensures.cases.0 c.in-Some-split_first.ensures.cases.0 c.in-Ok.ensures.1
+    case_goes fr r w c.give_reasons.new.work x xs k ks (reason_job fr c.in_ok-case.case) c.in-Some.ensures.cases.0 c.in-Some-split_first.ensures.cases.0 c.in-Ok.ensures.1
     (c.in_ok-case.ensures ∙ ap (λ u. Give_reason (record (call_of fr r.call.value) { whole = u; assumptions = assumed (suc r.call.value.assumptions) })
     (case_side fr r k) (why_at fr x) r.left r.right) c.in-Ok.ensures.0)
-    (third ∙ ap (λ js. reason_job fr c.in_ok-case.case ∷ js) (second ∙ ap (λ js. reasons_job fr rest ∷ js) first)) refl refl
+    c.in_ok-give_reasons.ensures.tasks (ap values_of c.give_reasons.ensures.values) c.give_reasons.ensures.left

@@ -1,86 +1,22 @@
-use Rattle.std.proofs.Common.{◌≡◌, ◌∷◌, Ok, Err, ap, ◌∙◌}
-use Rattle.circ_term.specs.Tree.{sort_of}
-use Rattle.circ_term.specs.Substitution.{instance}
-use Rattle.circ_theory.specs.Rewriting.{named}
-use Rattle.circ_expansion.specs.Expand.{link_setting, cases_at}
-use Rattle.circ_expansion.specs.Machine.{Give_reasons, Begin_split, End_split, all_uses}
-use Rattle.circ_expansion.specs.Followed.{led_all}
-use Rattle.circ_tasks.specs.Settings.{setting_of}
-use Rattle.circ_tasks.specs.Tasks.{call_of, basis_of, background_in, whys_at, begun_sides, reasons_job, split_term, links_at}
-use Rattle.circ_tasks.specs.declared.tasks.Reasons.{Reasons}
-use Rattle.circ_tasks.specs.declared.tasks.Task.TheVariants as task
-use Rattle.circ_tasks.proofs.Advancing.{all_built_from}
-use Rattle.circ_link_steps.proofs.Parting.{split_begun, left_split_past, right_split_past}
-use Rattle.circ_tasks.proofs.Stepping.{jobs_pushed}
+use Rattle.std.proofs.Common.{◌∷◌, ap, sym, ◌∙◌}
+use Rattle.circ_expansion.specs.Expand.{Yields}
+use Rattle.circ_expansion.specs.Machine.{pending, In_row}
+use Rattle.circ_expansion.specs.Pieces.{no_piece}
+use Rattle.circ_written.specs.Values.{values_of}
+use Rattle.circ_tasks.specs.Tasks.{jobs_of, begun_sides}
 use Rattle.circ_link_steps.proofs.reason_steps.split_step.Goals as goal
 
 pub returns-in-Err : goal.returns-in-Err
 returns-in-Err c =
-    let fr = c.args.frame.now in
-    let q = c.args.reason in
-    let s = c.side.result in
-    let chain = c.args.chain.now in
-    left_split_past fr q.basis.value q.call.value chain (named fr.table.now c.args.term) q.left q.right (whys_at fr c.args.whys.now) c.args.work.now c.in-Err.fault
-    (all_built_from (Err c.in-Err.fault) (setting_of s) (link_setting (background_in fr) (basis_of fr q.basis.value)) s.table.now fr.table.now c.as_slice.result.now
-    chain.left.items q.left (c.side.ensures.setting ∙ ap (λ b. link_setting (background_in fr) (basis_of fr b)) c.deref.ensures) c.side.ensures.table
-    c.as_slice.ensures.value c.in-Err.ensures)
-
-pub returns-in-Err-led_all : goal.returns-in-Err-led_all
-returns-in-Err-led_all c =
-    let fr = c.args.frame.now in
-    let q = c.args.reason in
-    let s1 = c.side.result in
-    let s2 = c.side-2.result in
-    let chain = c.args.chain.now in
-    let S = link_setting (background_in fr) (basis_of fr q.basis.value) in
-    let left = all_built_from (Ok c.in-Ok.left) (setting_of s1) S s1.table.now fr.table.now c.as_slice.result.now chain.left.items q.left
-    (c.side.ensures.setting ∙ ap (λ x. link_setting (background_in fr) (basis_of fr x)) c.deref.ensures) c.side.ensures.table c.as_slice.ensures.value c.in-Ok.ensures in
-    right_split_past fr q.basis.value q.call.value chain (named fr.table.now c.args.term) q.left q.right (whys_at fr c.args.whys.now) c.args.work.now c.in-Err-led_all.fault left.1
-    (all_built_from (Err c.in-Err-led_all.fault) (setting_of s2) S s2.table.now fr.table.now c.as_slice-2.result.now chain.right.items q.right
-    (c.side-2.ensures.setting ∙ ap (λ x. link_setting (background_in fr) (basis_of fr x)) c.deref-2.ensures) c.side-2.ensures.table c.as_slice-2.ensures.value
-    c.in-Err-led_all.ensures)
+    let w = c.args.work.now in
+    c.in-Err.ensures (jobs_of c.args.frame.now w) (values_of w.values) w.left
 
 pub returns : goal.returns
 returns c =
     let fr = c.args.frame.now in
     let w = c.args.work.now in
     let q = c.args.reason in
-    let d = q.call.value in
-    let b = q.basis.value in
-    let chain = c.args.chain.now in
-    let v = named fr.table.now c.args.term in
-    let S = link_setting (background_in fr) (basis_of fr b) in
-    let s1 = c.side.result in
-    let s2 = c.side-2.result in
-    let left = all_built_from (Ok c.in-Ok.left) (setting_of s1) S s1.table.now fr.table.now c.as_slice.result.now chain.left.items q.left
-    (c.side.ensures.setting ∙ ap (λ x. link_setting (background_in fr) (basis_of fr x)) c.deref.ensures) c.side.ensures.table c.as_slice.ensures.value c.in-Ok.ensures in
-    let right = all_built_from (Ok c.in-Ok-led_all.right) (setting_of s2) S s2.table.now fr.table.now c.as_slice-2.result.now chain.right.items q.right
-    (c.side-2.ensures.setting ∙ ap (λ x. link_setting (background_in fr) (basis_of fr x)) c.deref-2.ensures) c.side-2.ensures.table c.as_slice-2.ensures.value
-    c.in-Ok-led_all.ensures in
-    let r : Reasons = record {
-      call = c.in_ok-clone.field-0;
-      basis = c.in_ok-clone-2.field-0;
-      whys = c.args.whys;
-      term = c.in_ok-term.term;
-      all = c.constants-constants.result;
-      constants = c.constants-constants.result;
-      left = c.in-Ok.left;
-      right = c.in-Ok-led_all.right;
-    } in
-    let t : c.in_ok-term.term ≡ v = c.in_ok-term.ensures in
-    let ks = c.constants-constants.result.now in
-    let l = c.constants-constants.ensures in
-    let first = jobs_pushed fr w.tasks.items c.push.new.self.items task.PutBetween c.in_ok-push.ensures.items in
-    let second = jobs_pushed fr c.push.new.self.items c.push-2.new.self.items (task.Split r) c.in_ok-push-2.ensures.items in
-    split_begun fr b d chain v q.left q.right (whys_at fr c.args.whys.now) r w c.begin_sides.new.work left.1 right.1
-    ((λ i. Give_reasons (call_of fr (c.in_ok-clone.ensures.cases i)) (basis_of fr (c.in_ok-clone-2.ensures.cases i)) (whys_at fr c.args.whys.now) c.in_ok-term.term
-    (l i) (l i).constants (left.0 i) (right.0 i))
-    ∙ (λ i. Give_reasons (call_of fr d) (basis_of fr b) (whys_at fr c.args.whys.now) (t i)
-    (cases_at (all_uses (background_in fr)) (background_in fr) (sort_of (t i)))
-    (cases_at (all_uses (background_in fr)) (background_in fr) (sort_of (t i))).constants
-    (led_all S (links_at fr chain.left.items) q.left)
-    (led_all S (links_at fr chain.right.items) q.right)))
-    (λ i. instance (call_of fr (c.in_ok-clone.ensures.cases i)).by (t i))
-    (c.in_ok-begin_sides.ensures.tasks ∙ ap (begun_sides fr d b chain q.left q.right)
-    (second ∙ ap (λ js. Begin_split (split_term r) ∷ reasons_job fr r ∷ End_split (split_term r) ∷ js) first))
-    c.in_ok-begin_sides.ensures.values c.begin_sides.ensures.left
+    let js = c.in_ok-begin_sides.ensures.tasks ∙ ap (begun_sides fr q.call.value q.basis.value c.args.chain.now q.left q.right) c.in_ok-push_split.ensures.tasks in
+    let vs = c.in_ok-begin_sides.ensures.values ∙ ap (λ us. In_row no_piece ∷ values_of us) c.push_split.ensures.values in
+    let n = c.begin_sides.ensures.left ∙ c.push_split.ensures.left in
+    c.in-Ok.ensures (jobs_of fr w) (values_of w.values) w.left ∙ (λ i. Yields (pending (sym js i) (sym vs i)) (sym n i))

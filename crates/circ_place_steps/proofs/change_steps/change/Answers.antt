@@ -2,17 +2,15 @@ use Rattle.std.proofs.Common.{◌≡◌, ◌-◌, ◌∷◌, Global, Option, Som
 use Rattle.std.specs.declared.rc.Rc.{Rc}
 use Rattle.circ_term.specs.Tree.{Tree}
 use Rattle.circ_term.specs.Limits.{Names, first_limit}
-use Rattle.circ_theory.specs.declared.way.Way.TheVariants.{Forth}
 use Rattle.circ_expansion.specs.Followed.{put_or_same}
 use Rattle.circ_expansion.specs.Expand.{Case, No_case, tested, whole_with}
 use Rattle.circ_uses.specs.Guards.{plain_guard}
-use Rattle.circ_expansion.specs.Machine.{Enter_use, Put_behind}
-use Rattle.circ_tasks.specs.Tasks.{call_of, jobs_of, FindsCase}
+use Rattle.circ_written.specs.Values.{values_of}
+use Rattle.circ_tasks.specs.Tasks.{call_of, FindsCase}
 use Rattle.circ_tasks.specs.declared.calls.Call.{Call}
-use Rattle.circ_tasks.specs.declared.tasks.Task.TheVariants as task
 use Rattle.circ_tasks.specs.declared.tasks.Work.{Work}
 use Rattle.circ_place_steps.proofs.AtPlaces.{here_past, here_on, next_past, whole_past, changes_on, changed_on, changed_none, changed_found}
-use Rattle.circ_tasks.proofs.Stepping.{counted_none, jobs_pushed}
+use Rattle.circ_tasks.proofs.Stepping.{counted_none}
 use Rattle.circ_place_steps.proofs.change_steps.change.Goals as goal
 
 pub returns-in-Err : goal.returns-in-Err
@@ -85,7 +83,7 @@ returns c = λ v us e.
     let here = c.args.here in
     let w = c.args.work.now in
     let d = call_of fr x.call.value in
-    let new : Work = record w { tasks = c.push-3.new.self; left = w.left - 1 } in
+    let new : Work = c.push_change.new.work in
     let y = c.in-Some.call in
     let P : Case → Type 0 = λ k. FindsCase fr x c.in-Ok.whole p here k (Some y) in
     let Q : Option (Rc Call Global) → Type 0 = λ o. FindsCase fr x c.in-Ok.whole p here (plain_guard p c.in_ok-guard.guard) o in
@@ -93,13 +91,8 @@ returns c = λ v us e.
     let whole : first_limit (whole_with d here) ≡ None =
     ap (λ (z : Call). first_limit (whole_with (call_of fr z) here)) (sym c.deref.ensures) ∙ c.in-Ok.ensures.1 in
     let there = c.in-Ok.ensures.0 ∙ ap (λ (z : Call). whole_with (call_of fr z) here) c.deref.ensures in
-    let first = jobs_pushed fr w.tasks.items c.push.new.self.items (task.NextChange c.in_ok-after.field-0 c.in-Ok-put.next) c.in_ok-push.ensures.items in
-    let second = jobs_pushed fr c.push.new.self.items c.push-2.new.self.items (task.PutBehind Forth) c.in_ok-push-2.ensures.items in
-    let third = jobs_pushed fr c.push-2.new.self.items c.push-3.new.self.items (task.EnterUse y) c.in_ok-push-3.ensures.items in
-    changes_on fr x p here v us w new.left c.known.ensures whole (omega (arith, c.if-work-eq0.false)) c.in-Ok-put.ensures.1
+    changes_on fr x p here v us w new.left c.known.ensures whole (omega (arith, c.if-work-eq0.false, c.push_change.ensures.left)) c.in-Ok-put.ensures.1
     (ap (λ u. first_limit (whole_with d u)) (sym c.in-Ok-put.ensures.0)
     ∙ ap (λ (z : Call). first_limit (whole_with (call_of fr z) c.in-Ok-put.next)) (sym c.deref-2.ensures) ∙ c.in-Ok-whole_with.ensures.1)
     ∙ changed_found fr x p here c.in-Ok.whole c.in-Ok-put.next v us w new y found there c.in-Ok-put.ensures.0 e
-    (third ∙ ap (λ js. Enter_use (call_of fr y.value) ∷ js) (second ∙ ap (λ js. Put_behind Forth ∷ js)
-    (first ∙ ap (λ j. j ∷ jobs_of fr w) (c.in_ok-after.ensures fr c.in-Ok-put.next))))
-    refl
+    c.in_ok-push_change.ensures.tasks (ap values_of c.push_change.ensures.values)

@@ -14,15 +14,15 @@ returns c = λ e js vs n.
     let x = c.args.changes.now in
     let here = c.args.here.now in
     let q = c.args.above.now in
-    let path = ap (λ (p : Vec ℕ). p.items) c.in_ok-next-2.ensures.ok ∙ c.in_ok-path.ensures ∙ ap (λ (d : Call). base (call_of fr d) ++ q) c.deref-2.ensures in
-    let entries = ap (entries_of th) c.in_ok-next-3.ensures ∙ c.in_ok-entries.ensures in
-    let next = c.in_ok-next.ensures fr ∙ ap (call_of fr) c.deref.ensures in
+    let path = ap (λ (p : Vec ℕ). p.items) c.in_ok-path.ensures.ok ∙ c.in_ok-below.ensures ∙ ap (λ (d : Call). base (call_of fr d) ++ q) c.deref.ensures in
+    let entries = ap (entries_of th) c.in_ok-entries.ensures ∙ c.in_ok-list.ensures in
+    let next = c.in_ok-next.ensures fr ∙ ap (call_of fr) c.deref-2.ensures in
     let same =
     ap (call_of fr) c.in_ok-new.ensures.ok
     ∙ (λ i. let y : Use = next i in record y {
       whole = e i;
       path = path i;
       entries = entries i;
-      along = Some (layers_of th (c.in_ok-share.ensures i));
+      along = Some (layers_of th (c.in_ok-layers.ensures i));
     }) in
     λ i. Yields (pending (Enter_use (sym same i) ∷ js) vs) n

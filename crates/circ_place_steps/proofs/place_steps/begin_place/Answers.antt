@@ -1,11 +1,9 @@
-use Rattle.std.proofs.Common.{◌≡◌, ◌∷◌, ◌∙◌}
-use Rattle.circ_term.specs.Substitution.{instance}
+use Rattle.std.proofs.Common.{◌∷◌, ap, ◌∙◌}
 use Rattle.circ_expansion.specs.Machine.{Empty_row}
 use Rattle.circ_uses.specs.Fronts.{front}
 use Rattle.circ_uses.specs.Uses.{layers_of, entries_of}
-use Rattle.circ_uses.specs.Valuations.{by_of}
-use Rattle.circ_tasks.specs.Tasks.{changes_job}
-use Rattle.circ_place_steps.specs.Places.{occurrences_job}
+use Rattle.circ_written.specs.Values.{values_of}
+use Rattle.circ_place_steps.specs.Places.{certificate_job, occurrences_job}
 use Rattle.circ_tasks.specs.declared.tasks.Task.TheVariants as task
 use Rattle.circ_tasks.proofs.Stepping.{jobs_pushed}
 use Rattle.circ_place_steps.proofs.place_steps.begin_place.Goals as goal
@@ -14,17 +12,19 @@ pub returns-clause-tasks : goal.returns-clause-tasks
 returns-clause-tasks c =
     let fr = c.args.frame.now in
     let w = c.args.work.now in
-    let x = c.in_ok-changes.changes in
-    let l = c.in_ok-left.left in
-    let r = c.in_ok-right.right in
-    let by = c.in_ok-by.by in
-    let a = jobs_pushed fr w.tasks.items c.push.new.self.items task.PutBetween c.in_ok-push.ensures.items in
-    let b = jobs_pushed fr c.push.new.self.items c.push-2.new.self.items (task.FirstChange x by) c.in_ok-push-2.ensures.items in
-    let d = jobs_pushed fr c.push-2.new.self.items c.push-3.new.self.items task.EmptyRow c.in_ok-push-3.ensures.items in
-    let e = jobs_pushed fr c.push-3.new.self.items c.push-4.new.self.items (task.Links r) c.in_ok-push-4.ensures.items in
-    let g = jobs_pushed fr c.push-4.new.self.items c.push-5.new.self.items task.EmptyRow c.in_ok-push-5.ensures.items in
-    let h = jobs_pushed fr c.push-5.new.self.items c.push-6.new.self.items (task.Links l) c.in_ok-push-6.ensures.items in
-    let middle : changes_job fr x (instance (by_of by.value) x.last) ≡ occurrences_job fr c.args.call.now c.args.place
-    (layers_of fr.theory.now (front c.args.layers.now)) (entries_of fr.theory.now (front c.args.entries.now)) c.args.certificate.now c.args.ends.now =
-    (λ i. changes_job fr x (instance (by_of (c.in_ok-by.ensures.cases i)) (c.in_ok-changes.ensures.last i))) ∙ c.in_ok-changes.ensures.job in
-    h ∙ (λ i. c.in_ok-left.ensures i ∷ (g ∙ (λ j. Empty_row ∷ (e ∙ (λ k. c.in_ok-right.ensures k ∷ (d ∙ (λ m. Empty_row ∷ (b ∙ (λ n. middle n ∷ a n)) m)) k)) j)) i)
+    let d = c.args.call.now in
+    let x = c.args.certificate.now in
+    let e = c.args.ends.now in
+    let ls = layers_of fr.theory.now (front c.args.layers.now) in
+    let es = entries_of fr.theory.now (front c.args.entries.now) in
+    let between = jobs_pushed fr w.tasks.items c.push.new.self.items task.PutBetween c.in_ok-push.ensures.items in
+    c.in_ok-push_side-2.ensures.tasks ∙ ap (λ js. certificate_job fr d es x e.left.value ∷ Empty_row ∷ js)
+    (c.in_ok-push_side.ensures.tasks ∙ ap (λ js. certificate_job fr d es x e.right.value ∷ Empty_row ∷ js)
+    (c.in_ok-push_changes.ensures.tasks ∙ ap (λ js. occurrences_job fr d c.args.place ls es x e ∷ js) between))
+
+pub returns-clause-values : goal.returns-clause-values
+returns-clause-values c =
+    ap values_of (c.push_side-2.ensures.values ∙ c.push_side.ensures.values ∙ c.push_changes.ensures.values) ∙ c.in_ok-add_empty.ensures
+
+pub returns-clause-left : goal.returns-clause-left
+returns-clause-left c = c.push_side-2.ensures.left ∙ c.push_side.ensures.left ∙ c.push_changes.ensures.left

@@ -14,8 +14,8 @@ returns-clause-job c =
     let fr = c.args.frame.now in
     let x = c.args.certificate.now in
     let here = instance (by_of c.args.ends.now.left.value) x.last in
-    let is = ap (call_of fr) c.in_ok-new.ensures.ok
-    ∙ (λ i. let y : Use = c.in_ok-middle.ensures fr i in record y { entries = entries_of fr.theory.now (c.in_ok-middle-2.ensures i) }) in
-    let paths = ap (λ v. drop 0 (plain_paths v.items)) c.in_ok-new-2.ensures.ok ∙ all_paths c.in_ok-paths.paths.items
-    ∙ c.in_ok-paths.ensures ∙ ap (λ s. paths_of 0 s x.last) c.arg_sort.ensures in
-    λ i. Occurrences (is i) (layers_of fr.theory.now (c.in_ok-share.ensures i)) (c.in_ok-share-2.ensures.same i) (c.in_ok-share-3.ensures.same i) (paths i) here
+    let is = ap (call_of fr) c.in_ok-call.ensures.ok
+    ∙ (λ i. let y : Use = c.in_ok-middle.ensures fr i in record y { entries = entries_of fr.theory.now (c.in_ok-held.ensures i) }) in
+    let paths = ap (λ v. drop 0 (plain_paths v.items)) c.in_ok-paths.ensures.ok ∙ all_paths c.in_ok-found.found.items
+    ∙ c.in_ok-found.ensures ∙ ap (λ s. paths_of 0 s x.last) c.arg_sort.ensures in
+    λ i. Occurrences (is i) (layers_of fr.theory.now (c.in_ok-layers.ensures i)) (c.in_ok-to.ensures.same i) (c.in_ok-last.ensures.same i) (paths i) here

@@ -10,9 +10,9 @@ pub returns : goal.returns
 returns c =
     let fr = c.args.frame.now in
     let x = c.args.certificate.now in
-    let is_use = ap (call_of fr) c.in_ok-new.ensures.ok
+    let is_use = ap (call_of fr) c.in_ok-call.ensures.ok
     ∙ (λ i. let y : Use = c.in_ok-side.ensures fr i in record y {
-      entries = entries_of fr.theory.now (c.in_ok-side-2.ensures i);
-      by = by_of (c.in_ok-side-3.ensures.cases i);
+      entries = entries_of fr.theory.now (c.in_ok-held.ensures i);
+      by = by_of (c.in_ok-given.ensures.cases i);
     }) in
-    λ i. Links_job (is_use i) (basis_of fr (c.in_ok-clone.ensures.cases i)) (links_at fr x.links.now) (c.in_ok-share.ensures.same i)
+    λ i. Links_job (is_use i) (basis_of fr (c.in_ok-basis.ensures.cases i)) (links_at fr x.links.now) (c.in_ok-term.ensures.same i)

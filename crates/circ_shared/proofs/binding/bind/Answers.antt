@@ -1,4 +1,4 @@
-use Rattle.std.proofs.Common.{List, map, subst, sym, ap, ◌∙◌}
+use Rattle.std.proofs.Common.{List, map, subst, ap, ◌∙◌}
 use Rattle.std.specs.Prelude.{IfOk}
 use Rattle.circ_term.specs.Tree.{Tree}
 use Rattle.circ_nodes.specs.Named.{tree_at}

@@ -2,7 +2,6 @@ use Rattle.std.proofs.Common.{List, ◌+◌, sym, subst, arith}
 use Rattle.circ_nodes.proofs.Numbers.{grows_self, grows_more}
 use Rattle.circ_proof.proofs.Derivatives.{derivative_at, some_if_at}
 use Rattle.circ_steps.specs.declared.derivative.SharedDerivative.{SharedDerivative}
-use Rattle.std.specs.Prelude.{IfOk}
 use Rattle.circ_steps.specs.Derivatives.{IsDerivativeAt}
 use Rattle.circ_steps.proofs.Numbering.{FirstAt, first_next, first_all}
 use Rattle.circ_steps.proofs.derivative.derivatives.Goals as goal

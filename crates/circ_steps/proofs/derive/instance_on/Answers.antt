@@ -1,9 +1,7 @@
-use Rattle.std.proofs.Common.{map, false, true}
+use Rattle.std.proofs.Common.{map}
 use Rattle.circ_nodes.specs.Named.{tree_at}
 use Rattle.circ_nodes.proofs.Located.{named_tree}
 use Rattle.circ_nodes.proofs.Numbers.{all_below, named_below}
-use Rattle.circ_shared.specs.Binding.{Binds}
-use Rattle.circ_shared.specs.Memo.{IsMade}
 use Rattle.circ_theory.specs.Variables.{numbered}
 use Rattle.circ_theory.specs.Fresh.{parameter_sorts}
 use Rattle.circ_steps.proofs.Numbering.{fits_numbered}

@@ -1,4 +1,4 @@
-use Rattle.std.proofs.Common.{◌≡◌, ◌∙◌}
+use Rattle.std.proofs.Common.{◌∙◌}
 use Rattle.circ_nodes.proofs.Numbers.{grows_more}
 use Rattle.circ_shared.specs.declared.patterns.Sides.{Sides}
 use Rattle.circ_shared.proofs.Sharing.{are_there_later, there_later, pair_later}

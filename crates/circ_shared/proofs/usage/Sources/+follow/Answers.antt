@@ -8,8 +8,8 @@ use Rattle.circ_proof.specs.Runs.{Runs}
 use Rattle.circ_proof.specs.Link.{Setting, Leads, AllOfChains, resolved_link, resolved_links, resolved_chain}
 use Rattle.circ_proof.specs.Justified.{Justified}
 use Rattle.circ_nodes.specs.Named.{tree_at}
-use Rattle.circ_nodes.proofs.Located.{tree_later}
-use Rattle.circ_nodes.proofs.Numbers.{grows_more}
+use Rattle.circ_nodes.proofs.Located.{named_tree, tree_later}
+use Rattle.circ_nodes.proofs.Numbers.{grows_more, named_below}
 use Rattle.circ_replay.specs.Following.{Follows, FollowsAll}
 use Rattle.circ_replay.specs.Usage.{AllMeet}
 use Rattle.circ_replay.proofs.Meeting.{link_at, chain_at, each_chain, all_of_chains, chains_depth, chains_mapped}
@@ -20,6 +20,7 @@ use Rattle.circ_shared.specs.Patterns.{pair_at, pairs_at}
 use Rattle.circ_shared.specs.Settings.{setting_at, table_at}
 use Rattle.circ_shared.specs.Usage.{use_at, Uses}
 use Rattle.circ_shared.proofs.Cases.{same_number}
+use Rattle.circ_shared.proofs.Lighter.{within_grown, lighter_grows}
 use Rattle.circ_shared.proofs.Meets.{unread, read_again, sides_parts, sides_counted, sides_there}
 use Rattle.circ_shared.proofs.Sharing.{of_none, of_some, term_later, there_later, are_there_later, pair_later, shared_later, read_before}
 use Rattle.circ_shared.proofs.Using.{use_none, use_some, used_leads, used_stuck}
@@ -61,6 +62,37 @@ follow_all-returns-in-None-clause-exact t c = λ u r.
     runs_stuck s (resolved_link table (plain_link l)) (links_from table c.args.links.now (at.link-index + 1)) (links_from table c.args.links.now at.link-index) here next
     stuck u ((at.invariant.runs u).1 r)
 
+pub follow_all-lightened-requires : goal.follow_all-lightened-requires
+follow_all-lightened-requires t c =
+    let start = c.args.nodes.now in
+    let at = c.loop-link in
+    let after = c.follow.new.nodes in
+    let self = c.args.self.now in
+    let ss = c.args.assumptions.now in
+    let l = c.link-item.result in
+    let here = tree_at at.nodes at.here in
+    let some = of_some after (Follows (setting_at at.nodes self ss) (resolved_link (table_at at.nodes self) (plain_link l)) here)
+    c.in_ok-next.field-0 c.in-Some.next c.in-Some.is c.in_ok-next.ensures.exact in
+    record {
+      within = within_grown start after c.len-count.result c.len-count.ensures (grows_more start at.nodes after at.invariant.grows c.in_ok-next.ensures.grows);
+      there = some.0;
+    }
+
+pub follow_all-returns-in_err-next-clause-grows : goal.follow_all-returns-in_err-next-clause-grows
+follow_all-returns-in_err-next-clause-grows t c =
+    grows_more c.args.nodes.now c.loop-link.nodes c.follow.new.nodes c.loop-link.invariant.grows c.follow.ensures.grows
+
+pub follow_all-returns-in_err-here-in-Some-clause-grows : goal.follow_all-returns-in_err-here-in-Some-clause-grows
+follow_all-returns-in_err-here-in-Some-clause-grows t c =
+    let start = c.args.nodes.now in
+    let after = c.follow.new.nodes in
+    let grown = grows_more start c.loop-link.nodes after c.loop-link.invariant.grows c.in_ok-next.ensures.grows in
+    lighter_grows start after c.lightened.new.nodes c.len-count.result c.len-count.ensures grown c.lightened.ensures.grows
+
+pub follow_all-returns-in-None-clause-grows : goal.follow_all-returns-in-None-clause-grows
+follow_all-returns-in-None-clause-grows t c =
+    grows_more c.args.nodes.now c.loop-link.nodes c.follow.new.nodes c.loop-link.invariant.grows c.in_ok-next.ensures.grows
+
 pub follow_all-loop-link-preserved : goal.follow_all-loop-link-preserved
 follow_all-loop-link-preserved t c =
     let start = c.args.nodes.now in
@@ -72,17 +104,23 @@ follow_all-loop-link-preserved t c =
     let table = table_at start self in
     let l = c.link-item.result in
     let here = tree_at at.nodes at.here in
+    let last = c.lightened.new.nodes in
+    let n = c.in_ok-here-in-Some.here in
     let there = tree_at after c.in-Some.next in
     let next = links_next table c.args.links.now at.link-index l c.loop-link-test.true c.link-item.is in
     let some = of_some after (Follows (setting_at at.nodes self ss) (resolved_link (table_at at.nodes self) (plain_link l)) here)
     c.in_ok-next.field-0 c.in-Some.next c.in-Some.is c.in_ok-next.ensures.exact in
     let leads = read_before start at.nodes at.invariant.grows self ss c.requires.shared c.requires.assumptions (λ k m. Leads k (resolved_link m (plain_link l)) here there) some.1 in
+    let grown = grows_more start at.nodes after at.invariant.grows c.in_ok-next.ensures.grows in
+    let named = c.in_ok-here-in-Some.ensures.named in
+    let P : Tree → Type 0 = λ x. (u : Tree) → Runs (Leads s) (links_from table c.args.links.now (at.link-index + 1)) x u
+    ↔ Runs (Leads s) (links_from table c.args.links.now 0) (tree_at start c.args.term) u in
     record {
-      grows = grows_more start at.nodes after at.invariant.grows c.in_ok-next.ensures.grows;
-      there = some.0;
-      runs = λ u.
+      grows = lighter_grows start after last c.len-count.result c.len-count.ensures grown c.lightened.ensures.grows;
+      there = named_below last n there named;
+      runs = subst P (sym (named_tree last n there named)) (λ u.
           let on = runs_on s (resolved_link table (plain_link l)) (links_from table c.args.links.now (at.link-index + 1)) (links_from table c.args.links.now at.link-index) here there next leads u in
-          ((λ r. (at.invariant.runs u).0 (on.0 r)), (λ r. on.1 ((at.invariant.runs u).1 r)));
+          ((λ r. (at.invariant.runs u).0 (on.0 r)), (λ r. on.1 ((at.invariant.runs u).1 r))));
     }
 
 pub follow_all-returns-clause-exact : goal.follow_all-returns-clause-exact

@@ -7,7 +7,6 @@ use Rattle.circ_theory.specs.Rewriting.{named}
 use Rattle.circ_theory.specs.declared.parts.Goal.{Goal}
 use Rattle.circ_proof.specs.Rules.{State, Cases, StepOf}
 use Rattle.circ_nodes.specs.Named.{tree_at}
-use Rattle.circ_nodes.proofs.Numbers.{grows_self}
 use Rattle.circ_rules.proofs.Splitting.{splits}
 use Rattle.circ_shared.specs.Patterns.{pair_at, goal_at}
 use Rattle.circ_steps.specs.Judging.{terms_at}

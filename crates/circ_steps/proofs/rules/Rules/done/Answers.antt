@@ -1,5 +1,5 @@
 use Rattle.std.proofs.Common.{◌==◌, ap, ◌∙◌}
-use Rattle.circ_steps.proofs.Finished.{done_applies}
+use Rattle.circ_steps.proofs.Applied.{done_applies}
 use Rattle.circ_steps.proofs.rules.Rules.done.Goals as goal
 
 pub returns : goal.returns

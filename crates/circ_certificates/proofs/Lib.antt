@@ -1,0 +1,6 @@
+mod Members
+mod Fits
+mod Covering
+mod Beginning
+mod Seeing
+mod Certified
