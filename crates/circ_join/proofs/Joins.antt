@@ -36,23 +36,23 @@ is_same_at t u e = subst (λ x. is_same t x ≡ true) e (same_itself t)
 
 -- ---- work that finds something
 
--- the work as it is, with these uses before those that it finds
-abbrev pub behind : List HypothesisUse → Work (Option (List HypothesisUse)) → Work (Option (List HypothesisUse))
+-- the work as it is, with these uses or moves before those that it finds
+abbrev pub behind : {A : Type 0} → List A → Work (Option (List A)) → Work (Option (List A))
 behind us w = map_found (λ vs. us ++ vs) w
 
-pub behind_nothing : (w : Work (Option (List HypothesisUse))) → behind [] w ≡ w
+pub behind_nothing : {A : Type 0} (w : Work (Option (List A))) → behind [] w ≡ w
 behind_nothing (Made (Some us) k) = refl
 behind_nothing (Made None k) = refl
 behind_nothing Out = refl
 behind_nothing (Past x k) = refl
 
-pub behind_both : (us vs : List HypothesisUse) (w : Work (Option (List HypothesisUse))) → behind us (behind vs w) ≡ behind (us ++ vs) w
+pub behind_both : {A : Type 0} (us vs : List A) (w : Work (Option (List A))) → behind us (behind vs w) ≡ behind (us ++ vs) w
 behind_both us vs (Made (Some ws) k) = ap (λ x. Made (Some x) k) (sym (append_assoc us vs ws))
 behind_both us vs (Made None k) = refl
 behind_both us vs Out = refl
 behind_both us vs (Past x k) = refl
 
-hinders_then : {A B : Type 0} (f : A → ℕ → Work (Option B)) (e : RewriteFault) (l : ℕ) (w : Work (Option A)) → Hinders e l w → Hinders e l (found_then w f)
+pub hinders_then : {A B : Type 0} (f : A → ℕ → Work (Option B)) (e : RewriteFault) (l : ℕ) (w : Work (Option A)) → Hinders e l w → Hinders e l (found_then w f)
 hinders_then f Spent l w h = (ap (λ x. found_then x f) h.0, h.1)
 hinders_then f (TooBig n) l w h = ap (λ x. found_then x f) h
 hinders_then f (TooDeep n) l w h = ap (λ x. found_then x f) h
@@ -60,10 +60,10 @@ hinders_then f Memory l w h = tt
 
 -- ---- one argument
 
-pub beside_not : (same at_place : Bool) (one : ℕ → Work (Option (List HypothesisUse))) (k : ℕ) → same ≡ false → at_place ≡ false → beside_alone same at_place one k ≡ Made None k
+pub beside_not : {A : Type 0} (same at_place : Bool) (one : ℕ → Work (Option (List A))) (k : ℕ) → same ≡ false → at_place ≡ false → beside_alone same at_place one k ≡ Made None k
 beside_not same at_place one k e d = ap (λ v. beside_alone v at_place one k) e ∙ ap (λ v. beside_alone false v one k) d
 
-pub beside_joins : (same at_place : Bool) (one : ℕ → Work (Option (List HypothesisUse))) (k : ℕ) → same ≡ false → at_place ≡ true → beside_alone same at_place one k ≡ one k
+pub beside_joins : {A : Type 0} (same at_place : Bool) (one : ℕ → Work (Option (List A))) (k : ℕ) → same ≡ false → at_place ≡ true → beside_alone same at_place one k ≡ one k
 beside_joins same at_place one k e d = ap (λ v. beside_alone v at_place one k) e ∙ ap (λ v. beside_alone false v one k) d
 
 -- ---- two operators that differ

@@ -10,3 +10,4 @@ pub mod Standing
 pub mod UsesMade
 pub mod PutIn
 pub mod Bound
+pub mod Sides

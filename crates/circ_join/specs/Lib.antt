@@ -5,3 +5,4 @@ pub mod Lemmas
 pub mod Trying
 pub mod Binding
 pub mod Sweeping
+pub mod Sides

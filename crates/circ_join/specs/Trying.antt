@@ -28,9 +28,9 @@ abbrev pub Works : {A X : Type 0} → (X → A) → (left : ℕ) → Work A → 
 Works view left w (Ok x) = w ≡ Made (view x) left
 Works view left w (Err e) = Hinders e left w
 
--- The uses of a Join are appended; or it is no Join; or the answer says why neither is known.
-abbrev pub Joins : Work (Option (List HypothesisUse)) → (left : ℕ) → (old new : List HypothesisUse) → Result Bool RewriteFault → Type 0
-Joins w left old new (Ok true) = (us : List HypothesisUse) × (w ≡ Made (Some us) left) × (new ≡ old ++ us)
+-- The uses or moves of a Join are appended; or it is no Join; or the answer says why neither is known.
+abbrev pub Joins : {A : Type 0} → Work (Option (List A)) → (left : ℕ) → (old new : List A) → Result Bool RewriteFault → Type 0
+Joins {A} w left old new (Ok true) = (us : List A) × (w ≡ Made (Some us) left) × (new ≡ old ++ us)
 Joins w left old new (Ok false) = w ≡ Made None left
 Joins w left old new (Err e) = Hinders e left w
 
@@ -49,7 +49,7 @@ TestsForms normal a b k left (Ok (Some pass)) =
 TestsForms normal a b k left (Err e) = (rest : ℕ → Work (Option Passes)) → Hinders e left (same_forms normal a b k rest)
 
 -- one argument: it is equal, or stands at a place of the set and joins
-abbrev pub beside_alone : (same at_place : Bool) → (one : ℕ → Work (Option (List HypothesisUse))) → (budget : ℕ) → Work (Option (List HypothesisUse))
+abbrev pub beside_alone : {A : Type 0} → (same at_place : Bool) → (one : ℕ → Work (Option (List A))) → (budget : ℕ) → Work (Option (List A))
 beside_alone true p one k = Made (Some []) k
 beside_alone false false one k = Made None k
 beside_alone false true one k = one k

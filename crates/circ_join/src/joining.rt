@@ -203,7 +203,7 @@ impl Joining<'_> {
 }
 
 /// Whether an argument of an operator is a place of the set.
-pub(crate) fn has_place(gamma: &Gamma, op: u32, arg: u16) -> bool
+pub fn has_place(gamma: &Gamma, op: u32, arg: u16) -> bool
     ensures { result ≡ is_place gamma.now op arg }
 {
     gamma.has(op, arg)

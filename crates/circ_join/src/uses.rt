@@ -1,7 +1,8 @@
 //! Uses of hypotheses and of lemmas.
-ghost use Rattle.std.specs.Prelude.{◌≡◌, map, IfOk};
+ghost use Rattle.std.specs.Prelude.{◌≡◌, map, IfOk, OnOk};
 ghost use Rattle.circ_plain_search.specs.Joining.{use_link};
-ghost use Rattle.circ_proof.specs.Plain.{plain_link, plain_links, plain_chains};
+ghost use Rattle.circ_plain_search.specs.Search.{chained};
+ghost use Rattle.circ_proof.specs.Plain.{plain_chain, plain_chains, plain_link, plain_links};
 ghost use Rattle.circ_rewrite.specs.Links.{chains_by};
 ghost use Rattle.circ_rewrite.specs.Plain.{plain_passes};
 ghost use Rattle.circ_join.specs.Uses.{plain_use, plain_uses};
@@ -41,7 +42,8 @@ pub fn use_links(alloc: Global, uses: Vec<HypothesisUse>) -> Result<Vec<Link<Ter
     Ok(links)
 }
 
-fn use_link(one: HypothesisUse) -> Link<Term>
+/// The link that records a use.
+pub fn use_link(one: HypothesisUse) -> Link<Term>
     ensures { plain_link result ≡ use_link (plain_use one) }
 {
     Link::Hypothesis {
@@ -51,6 +53,20 @@ fn use_link(one: HypothesisUse) -> Link<Term>
         terms: one.terms,
         conds: one.conds,
     }
+}
+
+/// Puts the links of a chain behind those of another.
+pub fn append(chain: &mut Chain<Term>, more: Chain<Term>) -> Result<(), AllocError>
+    ensures { OnOk result (plain_chain chain.new
+        ≡ chained (plain_chain chain.old) (plain_chain more)) }
+{
+    let Chain {
+        mut left,
+        mut right,
+    } = more;
+    chain.left.append(&mut left)?;
+    chain.right.append(&mut right)?;
+    Ok(())
 }
 
 /// The links on both sides of each condition that holds.

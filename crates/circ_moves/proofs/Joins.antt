@@ -16,42 +16,11 @@ use Rattle.circ_tries.specs.Trying.{Hinders}
 use Rattle.circ_tries.proofs.Faulting.{hinders_map, hinders_next, hinders_same}
 use Rattle.circ_plain_search.specs.Joining.{HypothesisUse, is_place}
 use Rattle.circ_conditional_search.specs.Joining.{first_use_trying, found_then}
-use Rattle.circ_join.proofs.Joins.{nil_right, is_same_at}
+use Rattle.circ_join.specs.Trying.{Joins, beside_alone}
+use Rattle.circ_join.proofs.Joins.{nil_right, is_same_at, behind, behind_nothing, behind_both, hinders_then, beside_not, beside_joins}
 use Rattle.circ_content_join.specs.Joining.{meets_by_content, beside_by_content, no_move, contents_joined, joined_by_content, all_joined_by_content}
 use Rattle.circ_content_join.specs.Moves.{Move, Using}
-use Rattle.circ_moves.specs.Joining.{Joins, inside_by_content, beside_alone}
-
--- ---- work that finds something
-
--- the work as it is, with these uses before those that it finds
-abbrev pub behind : List Move → Work (Option (List Move)) → Work (Option (List Move))
-behind us w = map_found (λ vs. us ++ vs) w
-
-pub behind_nothing : (w : Work (Option (List Move))) → behind [] w ≡ w
-behind_nothing (Made (Some us) k) = refl
-behind_nothing (Made None k) = refl
-behind_nothing Out = refl
-behind_nothing (Past x k) = refl
-
-pub behind_both : (us vs : List Move) (w : Work (Option (List Move))) → behind us (behind vs w) ≡ behind (us ++ vs) w
-behind_both us vs (Made (Some ws) k) = ap (λ x. Made (Some x) k) (sym (append_assoc us vs ws))
-behind_both us vs (Made None k) = refl
-behind_both us vs Out = refl
-behind_both us vs (Past x k) = refl
-
-hinders_then : {A B : Type 0} (f : A → ℕ → Work (Option B)) (e : RewriteFault) (l : ℕ) (w : Work (Option A)) → Hinders e l w → Hinders e l (found_then w f)
-hinders_then f Spent l w h = (ap (λ x. found_then x f) h.0, h.1)
-hinders_then f (TooBig n) l w h = ap (λ x. found_then x f) h
-hinders_then f (TooDeep n) l w h = ap (λ x. found_then x f) h
-hinders_then f Memory l w h = tt
-
--- ---- one argument
-
-pub beside_not : (same at_place : Bool) (one : ℕ → Work (Option (List Move))) (k : ℕ) → same ≡ false → at_place ≡ false → beside_alone same at_place one k ≡ Made None k
-beside_not same at_place one k e d = ap (λ v. beside_alone v at_place one k) e ∙ ap (λ v. beside_alone false v one k) d
-
-pub beside_joins : (same at_place : Bool) (one : ℕ → Work (Option (List Move))) (k : ℕ) → same ≡ false → at_place ≡ true → beside_alone same at_place one k ≡ one k
-beside_joins same at_place one k e d = ap (λ v. beside_alone v at_place one k) e ∙ ap (λ v. beside_alone false v one k) d
+use Rattle.circ_moves.specs.Joining.{inside_by_content}
 
 -- ---- two terms
 

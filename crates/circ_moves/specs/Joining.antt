@@ -1,5 +1,5 @@
 -- What the parts of Join up to content answer.
-use Rattle.std.specs.Prelude.{◌≡◌, ℕ, ◌==◌, ◌&&◌, if◌then◌else◌, Bool, true, false, List, [], ◌++◌, Option, Some, None, Result, Ok, Err}
+use Rattle.std.specs.Prelude.{◌≡◌, ℕ, ◌==◌, ◌&&◌, if◌then◌else◌, List, Option, Some, None, Result, Ok, Err}
 use Rattle.circ_term.specs.Tree.{Tree, Var, App}
 use Rattle.circ_term.specs.Limits.{Names, IsWithinLimits, first_limit, or_else}
 use Rattle.circ_term.specs.declared.fault.TermFault.{TermFault}
@@ -7,20 +7,12 @@ use Rattle.circ_theory.specs.Signature.{Signature}
 use Rattle.circ_theory.specs.declared.parts.Goal.{Goal}
 use Rattle.circ_special.specs.declared.place.Place.{Place}
 use Rattle.circ_aci.specs.Canonical.{join}
-use Rattle.circ_rewrite.specs.declared.fault.RewriteFault.{RewriteFault}
 use Rattle.circ_conditional_norm.specs.Tries.{Normaliser}
-use Rattle.circ_conditional_norm.specs.Work.{Work, Made, or_next}
-use Rattle.circ_tries.specs.Trying.{Hinders}
+use Rattle.circ_conditional_norm.specs.Work.{Work, or_next}
 use Rattle.circ_content_join.specs.Apart.{Apart}
 use Rattle.circ_content_join.specs.Joining.{no_move, contents_joined, all_joined_by_content}
 use Rattle.circ_content_join.specs.Moves.{Move}
 use Rattle.circ_moves.specs.declared.rests.Rests.{Rests}
-
--- The moves of a Join are appended; or it is no Join; or the answer says why neither is known.
-abbrev pub Joins : Work (Option (List Move)) → (left : ℕ) → (old new : List Move) → Result Bool RewriteFault → Type 0
-Joins w left old new (Ok true) = (us : List Move) × (w ≡ Made (Some us) left) × (new ≡ old ++ us)
-Joins w left old new (Ok false) = w ≡ Made None left
-Joins w left old new (Err e) = Hinders e left w
 
 -- Join of two terms that differ, where no hypothesis is used on them: by their contents, or else by their arguments
 abbrev pub inside_by_content : Normaliser → Signature → List Place → List Goal → (q : List ℕ) → (a b : Tree) → (budget : ℕ)
@@ -31,12 +23,6 @@ inside_by_content normal sig G H q (App f s ts) (App g j us) =
     if (f == g) && (s == j)
     then (λ l. or_next (contents_joined normal sig G H f q (App f s ts) (App g j us) l) (all_joined_by_content normal sig G H f q 0 ts us))
     else no_move
-
--- one argument: it is equal, or stands at a place of the set and joins
-abbrev pub beside_alone : (same at_place : Bool) → (one : ℕ → Work (Option (List Move))) → (budget : ℕ) → Work (Option (List Move))
-beside_alone true p one k = Made (Some []) k
-beside_alone false false one k = Made None k
-beside_alone false true one k = one k
 
 -- the rests, each joined, and what was set aside
 pub record AreRests (f k : ℕ) (d : Apart) (r : Rests) : Type 0 where

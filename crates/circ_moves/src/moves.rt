@@ -3,13 +3,11 @@ ghost use Rattle.std.specs.Prelude.{◌≡◌, map, IfOk};
 ghost use Rattle.circ_proof.specs.Plain.{plain_link, plain_links};
 ghost use Rattle.circ_join.specs.Stopping.{Puts};
 ghost use Rattle.circ_content_join.specs.Moves.{make_all, move_link};
-ghost use Rattle.circ_plain_search.specs.Joining.{use_link};
-ghost use Rattle.circ_join.specs.Uses.{plain_use};
 ghost use Rattle.circ_moves.specs.Making.{put_here, made};
 ghost use Rattle.circ_moves.specs.Plain.{plain_move, plain_moves};
 
 use crate::row::joined;
-use circ_join::{HypothesisUse, Stop, put_at};
+use circ_join::{HypothesisUse, Stop, put_at, use_link};
 use circ_proof::Link;
 use circ_term::{Path, Term, share_all};
 use std::alloc::{AllocError, Global};
@@ -61,18 +59,6 @@ fn move_link(alloc: Global, one: Move) -> Result<Link<Term>, AllocError>
                 Err(_) => Err(AllocError),
             }
         }
-    }
-}
-
-fn use_link(one: HypothesisUse) -> Link<Term>
-    ensures { plain_link result ≡ use_link (plain_use one) }
-{
-    Link::Hypothesis {
-        number: one.number,
-        way: one.way,
-        path: one.path,
-        terms: one.terms,
-        conds: one.conds,
     }
 }
 

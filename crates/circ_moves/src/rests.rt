@@ -7,7 +7,6 @@ ghost use Rattle.circ_theory.specs.Signature.{Operator};
 ghost use Rattle.circ_theory.specs.Operators.{operator_of};
 ghost use Rattle.circ_aci.specs.Canonical.{join};
 ghost use Rattle.circ_aci.specs.Content.{content_under};
-ghost use Rattle.circ_plain_search.specs.Joining.{is_place};
 ghost use Rattle.circ_content_join.specs.Apart.{set_aside};
 ghost use Rattle.circ_content_join.specs.Joining.{joining_operator, regrouped};
 ghost use Rattle.circ_content_join.specs.Moves.{Using, Regrouping};
@@ -20,7 +19,7 @@ use crate::apart::{Apart, set_apart};
 use crate::moves::Move;
 use crate::row::joined;
 use circ_aci::content;
-use circ_join::HypothesisUse;
+use circ_join::{HypothesisUse, has_place};
 use circ_special::Gamma;
 use circ_term::{Path, Term, TermFault};
 use circ_theory::{OpDecl, Theory};
@@ -41,13 +40,6 @@ pub(crate) fn joining_operator<'a>(theory: &'a Theory, gamma: &Gamma, op: u32) -
         }
         None => None,
     }
-}
-
-/// Whether an argument of an operator is a place of the set.
-pub(crate) fn has_place(gamma: &Gamma, op: u32, arg: u16) -> bool
-    ensures { result ≡ is_place gamma.now op arg }
-{
-    gamma.has(op, arg)
 }
 
 /// The contents of two terms under a commutative operator, set apart.

@@ -1,4 +1,4 @@
-pub mod Standing
+pub mod TermOrder
 pub mod FirstRule
 pub mod Sweeps
 pub mod Uses

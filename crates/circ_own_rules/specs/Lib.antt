@@ -1,5 +1,4 @@
 pub mod Code
-pub mod Sides
-pub mod Standing
+pub mod TermOrder
 pub mod Rules
 pub mod Using

@@ -7,8 +7,8 @@ ghost use Rattle.circ_term.specs.Tree.{none, size_of, sizes_of, trees_of};
 ghost use Rattle.circ_term.specs.Subst.{substitution_of};
 ghost use Rattle.circ_term.specs.Substitution.{instance, instances};
 ghost use Rattle.circ_attempt.specs.Below.{is_below};
-ghost use Rattle.circ_own_rules.specs.Standing.{standing, standings, standing_to};
-ghost use Rattle.circ_own_rules.specs.Standing.{equal_or_greater};
+ghost use Rattle.circ_own_rules.specs.TermOrder.{term_order, terms_order, order_to};
+ghost use Rattle.circ_own_rules.specs.TermOrder.{equal_or_greater};
 
 use circ_term::{Kind, Subst, Term};
 use std::cmp::Ordering;
@@ -16,7 +16,7 @@ use std::cmp::Ordering;
 // How many nodes an instance has, and how it stands to a term: less where it is below it, equal
 // where both are the same, and else greater.
 #[derive(Clone, Copy)]
-struct Standing {
+struct Compared {
     size: u64,
     order: Ordering,
 }
@@ -25,23 +25,23 @@ struct Standing {
 pub(crate) fn is_below(subst: &Subst, pattern: &Term, old: &Term) -> bool
     ensures { result ≡ is_below (instance (substitution_of subst.now) pattern.now) old.now }
 {
-    instance_stands(subst, pattern, old).order.is_lt()
+    compare_instance(subst, pattern, old).order.is_lt()
 }
 
 // The pattern is gone over once, beside the term.
-#[cycle(instance_stands)]
-fn instance_stands(subst: &Subst, pattern: &Term, term: &Term) -> Standing
+#[cycle(compare_instance)]
+fn compare_instance(subst: &Subst, pattern: &Term, term: &Term) -> Compared
     ensures size { result.size ≡ size_of (instance (substitution_of subst.now) pattern.now) }
     ensures small { result.size ≤ 1000000 * size_of pattern.now }
     ensures order { result.order
-        ≡ standing (instance (substitution_of subst.now) pattern.now) term.now }
+        ≡ term_order (instance (substitution_of subst.now) pattern.now) term.now }
 {
     match (pattern.kind(), term.kind()) {
         (Kind::Variable { number, sort }, _) => match subst.get(number, sort) {
-            Some(bound) => term_stands(bound, term),
-            None => term_stands(pattern, term),
+            Some(bound) => compare_term(bound, term),
+            None => compare_term(pattern, term),
         },
-        (Kind::Application { .. }, Kind::Variable { .. }) => Standing {
+        (Kind::Application { .. }, Kind::Variable { .. }) => Compared {
             size: instance_size(subst, pattern),
             order: Ordering::Greater,
         },
@@ -54,10 +54,10 @@ fn instance_stands(subst: &Subst, pattern: &Term, term: &Term) -> Standing
             },
         ) => {
             pattern.known();
-            let inside = instances_stand(subst, args, term_args, op.cmp(&term_op));
+            let inside = compare_instances(subst, args, term_args, op.cmp(&term_op));
             let size = inside.size + 1;
             let order = size.cmp(&term.size()).then(inside.order);
-            Standing {
+            Compared {
                 size,
                 order: order.then(equal_or_greater(sort == term_sort)),
             }
@@ -66,39 +66,39 @@ fn instance_stands(subst: &Subst, pattern: &Term, term: &Term) -> Standing
 }
 
 // The same for arguments, where what comes before them stands so.
-#[cycle(instance_stands)]
-fn instances_stand(subst: &Subst, patterns: &[Term], terms: &[Term], before: Ordering) -> Standing
+#[cycle(compare_instance)]
+fn compare_instances(subst: &Subst, patterns: &[Term], terms: &[Term], before: Ordering) -> Compared
     requires few { sizes_of (trees_of patterns.now) ≤ 1000000 }
     ensures size { result.size
         ≡ sizes_of (instances (substitution_of subst.now) (trees_of patterns.now)) }
     ensures small { result.size ≤ 1000000 * sizes_of (trees_of patterns.now) }
-    ensures order { result.order ≡ ordering_then before (standings
+    ensures order { result.order ≡ ordering_then before (terms_order
         (instances (substitution_of subst.now) (trees_of patterns.now)) (trees_of terms.now)) }
 {
     let mut size = 0;
     let mut order = before;
     for i in 0..patterns.len() {
-        let one = next_stands(subst, &patterns[i], term_at(terms, i), order);
+        let one = compare_next(subst, &patterns[i], term_at(terms, i), order);
         size += one.size;
         order = one.order;
     }
-    Standing {
+    Compared {
         size,
-        order: order.then(end_stands(terms, patterns.len())),
+        order: order.then(compare_end(terms, patterns.len())),
     }
 }
 
 // The same for one argument. Behind a difference its nodes are counted alone.
-#[cycle(instance_stands)]
-fn next_stands(subst: &Subst, pattern: &Term, term: Option<&Term>, before: Ordering) -> Standing
+#[cycle(compare_instance)]
+fn compare_next(subst: &Subst, pattern: &Term, term: Option<&Term>, before: Ordering) -> Compared
     ensures size { result.size ≡ size_of (instance (substitution_of subst.now) pattern.now) }
     ensures small { result.size ≤ 1000000 * size_of pattern.now }
-    ensures order { result.order ≡ ordering_then before (standing_to
+    ensures order { result.order ≡ ordering_then before (order_to
         (instance (substitution_of subst.now) pattern.now) (option_copied term.entry)) }
 {
     match (before, term) {
-        (Ordering::Equal, Some(term)) => instance_stands(subst, pattern, term),
-        _ => Standing {
+        (Ordering::Equal, Some(term)) => compare_instance(subst, pattern, term),
+        _ => Compared {
             size: instance_size(subst, pattern),
             order: before.then(Ordering::Greater),
         },
@@ -141,21 +141,21 @@ fn instance_sizes(subst: &Subst, patterns: &[Term]) -> u64
 }
 
 // A term's number of nodes, and how it stands to another.
-fn term_stands(term: &Term, other: &Term) -> Standing
+fn compare_term(term: &Term, other: &Term) -> Compared
     ensures size { result.size ≡ size_of term.now }
     ensures small { result.size ≤ 1000000 }
-    ensures order { result.order ≡ standing term.now other.now }
+    ensures order { result.order ≡ term_order term.now other.now }
 {
-    Standing {
+    Compared {
         size: term.size(),
-        order: stands(term, other),
+        order: compare(term, other),
     }
 }
 
 // How a term stands to another.
-#[cycle(stands)]
-fn stands(term: &Term, other: &Term) -> Ordering
-    ensures { result ≡ standing term.now other.now }
+#[cycle(compare)]
+fn compare(term: &Term, other: &Term) -> Ordering
+    ensures { result ≡ term_order term.now other.now }
 {
     match (term.kind(), other.kind()) {
         (
@@ -176,7 +176,7 @@ fn stands(term: &Term, other: &Term) -> Ordering
             },
         ) => {
             let inside = match term.size().cmp(&other.size()).then(op.cmp(&other_op)) {
-                Ordering::Equal => stand(args, other_args),
+                Ordering::Equal => compare_all(args, other_args),
                 apart => apart,
             };
             inside.then(equal_or_greater(sort == other_sort))
@@ -184,32 +184,32 @@ fn stands(term: &Term, other: &Term) -> Ordering
     }
 }
 
-#[cycle(stands)]
-fn stand(terms: &[Term], others: &[Term]) -> Ordering
-    ensures { result ≡ standings (trees_of terms.now) (trees_of others.now) }
+#[cycle(compare)]
+fn compare_all(terms: &[Term], others: &[Term]) -> Ordering
+    ensures { result ≡ terms_order (trees_of terms.now) (trees_of others.now) }
 {
     for i in 0..terms.len() {
-        match stands_to(&terms[i], term_at(others, i)) {
+        match compare_to(&terms[i], term_at(others, i)) {
             Ordering::Equal => {}
             apart => return apart,
         }
     }
-    end_stands(others, terms.len())
+    compare_end(others, terms.len())
 }
 
-#[cycle(stands)]
-fn stands_to(term: &Term, other: Option<&Term>) -> Ordering
-    ensures { result ≡ standing_to term.now (option_copied other.entry) }
+#[cycle(compare)]
+fn compare_to(term: &Term, other: Option<&Term>) -> Ordering
+    ensures { result ≡ order_to term.now (option_copied other.entry) }
 {
     match other {
-        Some(other) => stands(term, other),
+        Some(other) => compare(term, other),
         None => Ordering::Greater,
     }
 }
 
 // How no more terms stand to those from a place on.
-fn end_stands(terms: &[Term], place: usize) -> Ordering
-    ensures { result ≡ standings none (trees_of (drop place terms.now)) }
+fn compare_end(terms: &[Term], place: usize) -> Ordering
+    ensures { result ≡ terms_order none (trees_of (drop place terms.now)) }
 {
     if place < terms.len() {
         return Ordering::Greater;

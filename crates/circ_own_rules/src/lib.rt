@@ -13,5 +13,5 @@ mod rules;
 mod sweeping;
 mod using;
 
-pub use passing::{RulePassing, SweptSides};
+pub use passing::RulePassing;
 pub use rules::HypothesisRules;

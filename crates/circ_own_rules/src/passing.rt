@@ -2,11 +2,11 @@
 ghost use Rattle.std.specs.Prelude.{◌≡◌, ◌≤◌, ◌++◌};
 ghost use Rattle.circ_attempt.specs.Passes.{both_swept};
 ghost use Rattle.circ_attempt.specs.Rules.{first_rule_use};
+ghost use Rattle.circ_join.specs.Sides.{plain_swept_sides};
 ghost use Rattle.circ_join.specs.Trying.{normaliser_of, Works};
-ghost use Rattle.circ_own_rules.specs.Sides.{plain_swept_sides};
 
 use crate::rules::HypothesisRules;
-use circ_join::Swept;
+use circ_join::SweptSides;
 use circ_rewrite::RewriteFault;
 use circ_special::Gamma;
 use circ_term::Term;
@@ -24,15 +24,6 @@ pub struct RulePassing<'a> {
     pub lemmas: &'a HypothesisRules,
     /// The block's own rules, or none.
     pub own: &'a HypothesisRules,
-}
-
-/// Both sides of a goal after a pass.
-#[derive(Drop)]
-pub struct SweptSides {
-    /// The left side.
-    pub left: Swept,
-    /// The right side.
-    pub right: Swept,
 }
 
 impl RulePassing<'_> {

@@ -13,9 +13,8 @@ ghost use Rattle.circ_own_rules.specs.Using.{plain_due};
 
 use crate::passing::RulePassing;
 use crate::using::DueRule;
-use circ_join::{HypothesisUse, Swept, put_at, rewrite_fault};
+use circ_join::{HypothesisUse, Swept, has_place, put_at, rewrite_fault};
 use circ_rewrite::RewriteFault;
-use circ_special::Gamma;
 use circ_term::{Kind, Path, Term};
 use circ_tries::Reducer;
 
@@ -198,10 +197,4 @@ impl<'a> RulePassing<'a> {
         *budget -= 1;
         Ok(())
     }
-}
-
-fn has_place(gamma: &Gamma, op: u32, arg: u16) -> bool
-    ensures { result ≡ is_place gamma.now op arg }
-{
-    gamma.has(op, arg)
 }

@@ -58,8 +58,8 @@ pub(crate) fn attempt_turn(
     }
 }
 
-// The attempt at the goal in hand.
-fn attempt(
+/// The attempt at the goal in hand: the chain that makes its sides equal, or none.
+pub fn attempt(
     search: &Search<'_>,
     reducer: &mut Reducer<'_>,
     passes: &PassRules,

@@ -6,9 +6,10 @@ ghost use Rattle.circ_proof.specs.Plain.{plain_chain, Same_why};
 ghost use Rattle.circ_turn.specs.Ending.{GoesTo};
 ghost use Rattle.circ_turn.specs.Standing.{standing, plain_limits};
 
+use circ_join::append;
 use circ_proof::{Chain, Why};
 use circ_term::Term;
-use circ_turn::{End, Search, State, append};
+use circ_turn::{End, Search, State};
 
 // The goal in hand is reduced by its chain and these links behind it.
 pub(crate) fn reduced_by(

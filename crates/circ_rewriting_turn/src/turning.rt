@@ -14,9 +14,9 @@ ghost use Rattle.circ_attempt.specs.Search.{pass_turn_rewriting, after_pass_turn
 ghost use Rattle.circ_attempt.specs.Passes.{both_swept};
 ghost use Rattle.circ_attempt.specs.Rules.{first_rule_use, lemmas_of};
 ghost use Rattle.circ_block.specs.Rules.{IsRulesOf};
+ghost use Rattle.circ_join.specs.Sides.{plain_swept_sides};
 ghost use Rattle.circ_join.specs.Trying.{Works};
 ghost use Rattle.circ_moves.specs.Plain.{plain_moves};
-ghost use Rattle.circ_own_rules.specs.Sides.{plain_swept_sides};
 ghost use Rattle.circ_proof.specs.Plain.{plain_chain};
 ghost use Rattle.circ_turn.specs.Standing.{standing, manner_of};
 ghost use Rattle.circ_turn.specs.Ending.{reducing};
@@ -28,15 +28,15 @@ use crate::joining::move_turn;
 use crate::pass_rules::PassRules;
 use crate::passed::Passed;
 use circ_block::BlockRules;
-use circ_join::Stop;
+use circ_join::{Stop, SweptSides};
 use circ_moves::{ContentJoining, Move};
-use circ_own_rules::{HypothesisRules, RulePassing, SweptSides};
+use circ_own_rules::{HypothesisRules, RulePassing};
 use circ_proof::Chain;
 use circ_rewrite::RewriteFault;
 use circ_term::Term;
 use circ_theory::Goal;
 use circ_tries::Reducer;
-use circ_turn::{End, Search, State, has_uses};
+use circ_turn::{End, Search, State};
 
 // One goal: both sides are normalised under its conditions, and then it is looked at.
 pub(crate) fn goal_turn(
@@ -210,8 +210,8 @@ fn pass_turn(
     }
 }
 
-// A lemma pass over both sides of a goal.
-fn lemma_pass(
+/// A lemma pass over both sides of a goal.
+pub fn lemma_pass(
     search: &Search<'_>,
     reducer: &mut Reducer<'_>,
     passes: &PassRules,
@@ -260,7 +260,7 @@ fn swept_turn(
         result }
     ensures rules { IsRulesOf search.now.theory.now state.old.hyps.earlier rules.new }
 {
-    if !has_uses(&sides) {
+    if !sides.has_uses() {
         drop(sides);
         passed.clear();
         return attempt_turn(search, rules, passes, state, goal);

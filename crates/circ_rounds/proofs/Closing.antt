@@ -22,11 +22,6 @@ use Rattle.circ_attempt.specs.Attempt.{both_normal, unless_stopped, join_chain}
 use Rattle.circ_join.specs.Uses.{plain_uses}
 use Rattle.circ_join.specs.declared.uses.HypothesisUse.{HypothesisUse as TheUse}
 
--- a pass that replaces something on the left side replaces something
-pub has_left_uses : (us vs : List TheUse) → (length us == 0) ≡ false → has_links (chain_with (map use_link (plain_uses us)) (map use_link (plain_uses vs))) ≡ true
-has_left_uses [] vs e = absurd (cc)
-has_left_uses (u ∷ us) vs e = refl
-
 -- ---- both normal forms
 
 module _ (th : Theory) (R : List Rule) (A : List Pair) (s t : Tree) (k : ℕ) where

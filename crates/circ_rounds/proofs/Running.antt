@@ -20,7 +20,7 @@ use Rattle.circ_attempt.specs.Attempt.{Rounds, Stood, attempt_taker, both_normal
 use Rattle.circ_attempt.specs.Passes.{both_swept}
 use Rattle.circ_attempt.specs.Rules.{first_rule_use}
 use Rattle.circ_rounds.specs.Attempting.{AttemptsIn, rounds_in, normal_round_in, join_round_in}
-use Rattle.circ_rounds.specs.Running.{GoesBy, GoesOn, sides_of, stood_of}
+use Rattle.circ_rounds.specs.Running.{GoesBy, RoundGoes, sides_of, stood_of}
 use Rattle.circ_rounds.specs.declared.attempt.Attempting.{Attempting}
 use Rattle.circ_rounds.specs.declared.run.Next.{Next}
 use Rattle.circ_rounds.specs.declared.run.Next.TheVariants as next
@@ -74,9 +74,9 @@ module _ (a : Attempting) (bs : List Bool) (A : List Pair) (most i : ℕ) (ps : 
 
 -- ---- a round
 
-pub goes_on_same : (again : Rounds) (v w : Work (Option (ChainOf Tree))) (run : Run) (l : ℕ) (r : Result Next RewriteFault) → v ≡ w → GoesOn again w run l r
-    → GoesOn again v run l r
-goes_on_same again v w run l r e h = let P : Work (Option (ChainOf Tree)) → Type 0 = λ u. GoesOn again u run l r in subst P (sym e) h
+pub goes_on_same : (again : Rounds) (v w : Work (Option (ChainOf Tree))) (run : Run) (l : ℕ) (r : Result Next RewriteFault) → v ≡ w → RoundGoes again w run l r
+    → RoundGoes again v run l r
+goes_on_same again v w run l r e h = let P : Work (Option (ChainOf Tree)) → Type 0 = λ u. RoundGoes again u run l r in subst P (sym e) h
 
 module _ (a : Attempting) (bs : List Bool) (A : List Pair) (r : Rewriting) (h : AttemptsIn a bs A r) (n : ℕ) (ps : Stood) (x : Sides) (k l : ℕ) where
   abbrev th : Theory

@@ -31,6 +31,6 @@ GoesBy again w r left next.Closed = w ≡ Made (Some (plain_chain r.chain)) left
 GoesBy again w r left next.Ended = w ≡ Made None left
 
 -- the same, or the answer says why neither is known
-abbrev pub GoesOn : Rounds → Work (Option (ChainOf Tree)) → Run → (left : ℕ) → Result Next RewriteFault → Type 0
-GoesOn again w r left (Ok next) = GoesBy again w r left next
-GoesOn again w r left (Err e) = Hinders e left w
+abbrev pub RoundGoes : Rounds → Work (Option (ChainOf Tree)) → Run → (left : ℕ) → Result Next RewriteFault → Type 0
+RoundGoes again w r left (Ok next) = GoesBy again w r left next
+RoundGoes again w r left (Err e) = Hinders e left w

@@ -3,11 +3,11 @@ ghost use Rattle.std.specs.Prelude.{◌≡◌, ◌≤◌, ℕ, suc, Bool, List};
 ghost use Rattle.circ_theory.specs.Theory.{Pair};
 ghost use Rattle.circ_rounds.specs.Attempting.{AttemptsIn, rounds_in};
 ghost use Rattle.circ_rounds.specs.Attempting.{normal_round_in, join_round_in};
-ghost use Rattle.circ_rounds.specs.Running.{GoesOn, sides_of, stood_of};
+ghost use Rattle.circ_rounds.specs.Running.{RoundGoes, sides_of, stood_of};
 
 use crate::attempt::Attempting;
 use crate::run::{Next, Run};
-use crate::sides::{both_normal, has_uses, passed_sides};
+use crate::sides::{both_normal, passed_sides};
 use circ_moves::ContentJoining;
 use circ_own_rules::RulePassing;
 use circ_rewrite::RewriteFault;
@@ -22,7 +22,7 @@ impl Attempting<'_> {
         budget: &mut u64,
     ) -> Result<Next, RewriteFault>
         ensures exact { (A : List Pair) (bs : List Bool) (n : ℕ)
-            → AttemptsIn self.now bs A reducer.old → GoesOn (rounds_in self.now bs A n)
+            → AttemptsIn self.now bs A reducer.old → RoundGoes (rounds_in self.now bs A n)
             (rounds_in self.now bs A (suc n) (stood_of run.old) (sides_of run.old) budget.old)
             run.new budget.new result }
         ensures less { budget.new ≤ budget.old }
@@ -37,7 +37,7 @@ impl Attempting<'_> {
         match passing.pass_both(reducer, &run.left, &run.right, budget) {
             Err(fault) => Err(fault),
             Ok(swept) => {
-                if !has_uses(&swept) {
+                if !swept.has_uses() {
                     return Ok(Next::Ended);
                 }
                 run.go_to(passed_sides(self.alloc, swept)?)?;
@@ -54,7 +54,7 @@ impl Attempting<'_> {
         budget: &mut u64,
     ) -> Result<Next, RewriteFault>
         ensures exact { (A : List Pair) (bs : List Bool) (n : ℕ)
-            → AttemptsIn self.now bs A reducer.old → GoesOn (rounds_in self.now bs A n)
+            → AttemptsIn self.now bs A reducer.old → RoundGoes (rounds_in self.now bs A n)
             (normal_round_in self.now bs A n (stood_of run.old) (sides_of run.old) budget.old)
             run.new budget.new result }
         ensures less { budget.new ≤ budget.old }
@@ -77,7 +77,7 @@ impl Attempting<'_> {
         budget: &mut u64,
     ) -> Result<Next, RewriteFault>
         ensures exact { (A : List Pair) (bs : List Bool) (n : ℕ)
-            → AttemptsIn self.now bs A reducer.old → GoesOn (rounds_in self.now bs A n)
+            → AttemptsIn self.now bs A reducer.old → RoundGoes (rounds_in self.now bs A n)
             (join_round_in self.now bs A n (stood_of run.old) (sides_of run.old) budget.old)
             run.new budget.new result }
         ensures less { budget.new ≤ budget.old }

@@ -8,7 +8,7 @@ ghost use Rattle.circ_proof.specs.Plain.{plain_chain};
 ghost use Rattle.circ_rounds.specs.Running.{GoesBy, sides_of, stood_of};
 
 use crate::sides::Sides;
-use circ_join::Stop;
+use circ_join::{Stop, append};
 use circ_moves::{Move, make_all, move_links};
 use circ_proof::Chain;
 use circ_term::Term;
@@ -109,18 +109,4 @@ fn are_same(left: &Term, right: &Term, pair: &(Term, Term)) -> bool
     ensures { result ≡ (is_same left.now pair.now.0 && is_same right.now pair.now.1) }
 {
     left.same(&pair.0) && right.same(&pair.1)
-}
-
-// Puts the links of a chain behind those of another.
-fn append(chain: &mut Chain<Term>, more: Chain<Term>) -> Result<(), AllocError>
-    ensures { OnOk result (plain_chain chain.new
-        ≡ chained (plain_chain chain.old) (plain_chain more)) }
-{
-    let Chain {
-        mut left,
-        mut right,
-    } = more;
-    chain.left.append(&mut left)?;
-    chain.right.append(&mut right)?;
-    Ok(())
 }

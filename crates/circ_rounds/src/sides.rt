@@ -1,14 +1,12 @@
 //! Both sides of a goal, with the links that led to them.
 ghost use Rattle.std.specs.Prelude.{◌≡◌, ◌≤◌, ℕ, IfOk};
 ghost use Rattle.circ_attempt.specs.Attempt.{both_normal};
-ghost use Rattle.circ_conditional_search.specs.Search.{pass_chain, passed_sides};
+ghost use Rattle.circ_conditional_search.specs.Search.{passed_sides};
+ghost use Rattle.circ_join.specs.Sides.{plain_swept_sides};
 ghost use Rattle.circ_join.specs.Trying.{Works};
-ghost use Rattle.circ_own_rules.specs.Sides.{plain_swept_sides};
-ghost use Rattle.circ_plain_search.specs.Search.{has_links};
 ghost use Rattle.circ_rounds.specs.Running.{plain_sides};
 
-use circ_join::use_links;
-use circ_own_rules::SweptSides;
+use circ_join::{SweptSides, use_links};
 use circ_proof::Chain;
 use circ_rewrite::{RewriteFault, links_of};
 use circ_term::Term;
@@ -65,14 +63,4 @@ pub(crate) fn passed_sides(alloc: Global, swept: SweptSides) -> Result<Sides, Al
     };
     let (left, right) = (left.whole, right.whole);
     Ok(Sides { left, right, chain })
-}
-
-/// Whether a pass has replaced anything on one of the sides.
-pub(crate) fn has_uses(swept: &SweptSides) -> bool
-    ensures { result ≡ has_links (pass_chain (plain_swept_sides swept.now)) }
-{
-    if !swept.left.uses.as_slice().is_empty() {
-        return true;
-    }
-    !swept.right.uses.as_slice().is_empty()
 }

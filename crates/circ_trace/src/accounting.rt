@@ -21,74 +21,152 @@ ghost use Rattle.circ_trace.specs.Telling.{RulesAreRead};
 ghost use Rattle.circ_trace.specs.Used.{numbers_of};
 
 use crate::account::{Account, Deed};
-use crate::rewriting_deeds::deed_rewriting;
+use crate::turn_ahead::TurnAhead;
 use crate::used::push_numbers;
 use circ_block::BlockRules;
 use circ_join::{HypothesisUse, Joining, Lemmas, Passing, Stop};
 use circ_rewrite::RewriteFault;
-use circ_rewriting_turn::{PassRules, Passed};
 use circ_split::{Sides, case_term, normal_sides};
 use circ_theory::Goal;
 use circ_tries::Reducer;
-use circ_turn::{Search, State};
+use circ_turn::Search;
 use std::alloc::{AllocError, Global};
 
-/// What the next turn comes upon and does. None where no goal is left, or normalising ends the
-/// search.
-pub(crate) fn account(
-    search: &Search<'_>,
-    rules: &mut BlockRules<'_>,
-    passes: &PassRules,
-    passed: &Passed,
-    state: &State<'_>,
-) -> Result<Option<Account>, AllocError>
-    requires rules { IsRulesOf search.now.theory.now state.now.hyps.earlier rules.old }
-    requires passes { RulesAreRead search.now (standing state.now) passes.now }
-    requires small { IsSmallTrying (standing state.now) }
-    ensures exact { IfOk result (λ o. plain_account_if o
-        ≡ account search.now.theory.now search.now.gamma.now (conduct_with search.now.limits)
-        (going (standing state.now) passed.now)) }
-    ensures rules { IsRulesOf search.now.theory.now state.now.hyps.earlier rules.new }
-{
-    match state.queue.front() {
-        None => Ok(None),
-        Some(goal) => goal_account(search, rules, passes, passed, state, goal),
+impl TurnAhead<'_, '_, '_> {
+    /// What the turn comes upon and does. None where no goal is left, or normalising ends the
+    /// search.
+    pub(crate) fn account(&self, rules: &mut BlockRules<'_>) -> Result<Option<Account>, AllocError>
+        requires rules { IsRulesOf self.now.search.now.theory.now self.now.state.now.hyps.earlier
+            rules.old }
+        requires passes { RulesAreRead self.now.search.now (standing self.now.state.now)
+            self.now.passes.now }
+        requires small { IsSmallTrying (standing self.now.state.now) }
+        ensures exact { IfOk result (λ o. plain_account_if o ≡ account
+            self.now.search.now.theory.now self.now.search.now.gamma.now
+            (conduct_with self.now.search.now.limits)
+            (going (standing self.now.state.now) self.now.passed.now)) }
+        ensures rules { IsRulesOf self.now.search.now.theory.now self.now.state.now.hyps.earlier
+            rules.new }
+    {
+        match self.state.queue.front() {
+            None => Ok(None),
+            Some(goal) => self.goal_account(rules, goal),
+        }
     }
-}
 
-// The same where this goal is in hand.
-fn goal_account(
-    search: &Search<'_>,
-    rules: &mut BlockRules<'_>,
-    passes: &PassRules,
-    passed: &Passed,
-    state: &State<'_>,
-    goal: &Goal,
-) -> Result<Option<Account>, AllocError>
-    requires rules { IsRulesOf search.now.theory.now state.now.hyps.earlier rules.old }
-    requires passes { RulesAreRead search.now (standing state.now) passes.now }
-    requires few { length goal.now.conds < 2 ^ 32 }
-    ensures exact { IfOk result (λ o. plain_account_if o ≡ account_of search.now.theory.now
-        search.now.gamma.now (conduct_with search.now.limits)
-        (going (standing state.now) passed.now) goal.now.conds
-        (normal_sides_trying search.now.theory.now
-        (block_rules search.now.theory.now state.now.hyps.earlier) goal.now.conds goal.now.left
-        goal.now.right state.now.budget)) }
-    ensures rules { IsRulesOf search.now.theory.now state.now.hyps.earlier rules.new }
-{
-    rules.assume(search.alloc, goal.conds.as_slice())?;
-    let mut budget = state.budget;
-    match normal_sides(
-        search.alloc,
-        &mut rules.goals.reducer,
-        &goal.left,
-        &goal.right,
-        &mut budget,
-    ) {
-        Err(stop) => none_unless_memory(&stop),
-        Ok(sides) => {
-            let goal = with_sides(search.alloc, goal, sides)?;
-            normal_account(search, rules, passes, passed, state, goal, budget)
+    // The same where this goal is in hand.
+    fn goal_account(
+        &self,
+        rules: &mut BlockRules<'_>,
+        goal: &Goal,
+    ) -> Result<Option<Account>, AllocError>
+        requires rules { IsRulesOf self.now.search.now.theory.now self.now.state.now.hyps.earlier
+            rules.old }
+        requires passes { RulesAreRead self.now.search.now (standing self.now.state.now)
+            self.now.passes.now }
+        requires few { length goal.now.conds < 2 ^ 32 }
+        ensures exact { IfOk result (λ o. plain_account_if o ≡ account_of
+            self.now.search.now.theory.now self.now.search.now.gamma.now
+            (conduct_with self.now.search.now.limits)
+            (going (standing self.now.state.now) self.now.passed.now) goal.now.conds
+            (normal_sides_trying self.now.search.now.theory.now
+            (block_rules self.now.search.now.theory.now self.now.state.now.hyps.earlier)
+            goal.now.conds goal.now.left goal.now.right self.now.state.now.budget)) }
+        ensures rules { IsRulesOf self.now.search.now.theory.now self.now.state.now.hyps.earlier
+            rules.new }
+    {
+        let alloc = self.search.alloc;
+        rules.assume(alloc, goal.conds.as_slice())?;
+        let mut budget = self.state.budget;
+        let reducer = &mut rules.goals.reducer;
+        match normal_sides(alloc, reducer, &goal.left, &goal.right, &mut budget) {
+            Err(stop) => none_unless_memory(&stop),
+            Ok(sides) => {
+                let goal = with_sides(alloc, goal, sides)?;
+                self.normal_account(rules, goal, budget)
+            }
+        }
+    }
+
+    // The same where the goal's sides are in normal form. The rules have its conditions.
+    fn normal_account(
+        &self,
+        rules: &mut BlockRules<'_>,
+        goal: Goal,
+        budget: u64,
+    ) -> Result<Option<Account>, AllocError>
+        requires rules { IsRulesOf self.now.search.now.theory.now self.now.state.now.hyps.earlier
+            rules.old }
+        requires passes { RulesAreRead self.now.search.now (standing self.now.state.now)
+            self.now.passes.now }
+        requires conds { rules.old.goals.conds ≡ goal.conds }
+        ensures exact { IfOk result (λ o. plain_account_if o ≡ Some (account_on
+            self.now.search.now.theory.now self.now.search.now.gamma.now
+            (conduct_with self.now.search.now.limits)
+            (going (standing self.now.state.now) self.now.passed.now) goal budget)) }
+        ensures rules { IsRulesOf self.now.search.now.theory.now self.now.state.now.hyps.earlier
+            rules.new }
+    {
+        let deed = self.deed(rules, &goal, budget)?;
+        let deed = with_cases(self.search, &goal, deed)?;
+        Ok(Some(Account {
+            left: goal.left,
+            right: goal.right,
+            deed,
+        }))
+    }
+
+    // What is done with a goal whose sides are in normal form.
+    fn deed(
+        &self,
+        rules: &mut BlockRules<'_>,
+        goal: &Goal,
+        budget: u64,
+    ) -> Result<Deed, AllocError>
+        requires rules { IsRulesOf self.now.search.now.theory.now self.now.state.now.hyps.earlier
+            rules.old }
+        requires passes { RulesAreRead self.now.search.now (standing self.now.state.now)
+            self.now.passes.now }
+        requires conds { rules.old.goals.conds ≡ goal.now.conds }
+        ensures exact { IfOk result (λ d. plain_deed d ≡ deed_on self.now.search.now.theory.now
+            self.now.search.now.gamma.now self.now.search.now.limits.rewrite
+            (going (standing self.now.state.now) self.now.passed.now) goal.now budget) }
+        ensures rules { IsRulesOf self.now.search.now.theory.now self.now.state.now.hyps.earlier
+            rules.new }
+    {
+        if self.search.limits.rewrite {
+            self.deed_rewriting(rules, goal, budget)
+        } else {
+            self.deed_trying(rules, goal, budget)
+        }
+    }
+
+    // The same where no hypothesis is a rule.
+    fn deed_trying(
+        &self,
+        rules: &mut BlockRules<'_>,
+        goal: &Goal,
+        budget: u64,
+    ) -> Result<Deed, AllocError>
+        requires rules { IsRulesOf self.now.search.now.theory.now self.now.state.now.hyps.earlier
+            rules.old }
+        requires conds { rules.old.goals.conds ≡ goal.now.conds }
+        ensures exact { IfOk result (λ d. plain_deed d ≡ deed_trying
+            self.now.search.now.theory.now self.now.search.now.gamma.now
+            (standing self.now.state.now) goal.now budget) }
+        ensures rules { IsRulesOf self.now.search.now.theory.now self.now.state.now.hyps.earlier
+            rules.new }
+    {
+        let joining = Joining {
+            alloc: self.search.alloc,
+            gamma: self.search.gamma,
+            hyps: &self.state.hyps,
+        };
+        let mut budget = budget;
+        let reducer = &mut rules.goals.reducer;
+        match joining.join(reducer, &goal.left, &goal.right, &mut budget) {
+            Err(fault) => ends_unless_memory(&fault, false),
+            Ok(joined) => joined_deed(self.search, reducer, &rules.lemmas, goal, joined, budget),
         }
     }
 }
@@ -105,33 +183,6 @@ fn with_sides(alloc: Global, goal: &Goal, sides: Sides) -> Result<Goal, AllocErr
         left: sides.left,
         right: sides.right,
     })
-}
-
-// The same where the goal's sides are in normal form. The rules have its conditions.
-fn normal_account(
-    search: &Search<'_>,
-    rules: &mut BlockRules<'_>,
-    passes: &PassRules,
-    passed: &Passed,
-    state: &State<'_>,
-    goal: Goal,
-    budget: u64,
-) -> Result<Option<Account>, AllocError>
-    requires rules { IsRulesOf search.now.theory.now state.now.hyps.earlier rules.old }
-    requires passes { RulesAreRead search.now (standing state.now) passes.now }
-    requires conds { rules.old.goals.conds ≡ goal.conds }
-    ensures exact { IfOk result (λ o. plain_account_if o
-        ≡ Some (account_on search.now.theory.now search.now.gamma.now
-        (conduct_with search.now.limits) (going (standing state.now) passed.now) goal budget)) }
-    ensures rules { IsRulesOf search.now.theory.now state.now.hyps.earlier rules.new }
-{
-    let deed = deed(search, rules, passes, passed, state, &goal, budget)?;
-    let deed = with_cases(search, &goal, deed)?;
-    Ok(Some(Account {
-        left: goal.left,
-        right: goal.right,
-        deed,
-    }))
 }
 
 // A hidden goal that is open is split on a term, where hidden goals are split.
@@ -174,58 +225,6 @@ fn none_unless_memory(stop: &Stop) -> Result<Option<Account>, AllocError>
     match stop {
         Stop::Memory => Err(AllocError),
         _ => Ok(None),
-    }
-}
-
-// What is done with a goal whose sides are in normal form.
-fn deed(
-    search: &Search<'_>,
-    rules: &mut BlockRules<'_>,
-    passes: &PassRules,
-    passed: &Passed,
-    state: &State<'_>,
-    goal: &Goal,
-    budget: u64,
-) -> Result<Deed, AllocError>
-    requires rules { IsRulesOf search.now.theory.now state.now.hyps.earlier rules.old }
-    requires passes { RulesAreRead search.now (standing state.now) passes.now }
-    requires conds { rules.old.goals.conds ≡ goal.now.conds }
-    ensures exact { IfOk result (λ d. plain_deed d ≡ deed_on search.now.theory.now
-        search.now.gamma.now search.now.limits.rewrite (going (standing state.now) passed.now)
-        goal.now budget) }
-    ensures rules { IsRulesOf search.now.theory.now state.now.hyps.earlier rules.new }
-{
-    if search.limits.rewrite {
-        deed_rewriting(search, rules, passes, passed, state, goal, budget)
-    } else {
-        deed_trying(search, rules, state, goal, budget)
-    }
-}
-
-// The same where no hypothesis is a rule.
-fn deed_trying(
-    search: &Search<'_>,
-    rules: &mut BlockRules<'_>,
-    state: &State<'_>,
-    goal: &Goal,
-    budget: u64,
-) -> Result<Deed, AllocError>
-    requires rules { IsRulesOf search.now.theory.now state.now.hyps.earlier rules.old }
-    requires conds { rules.old.goals.conds ≡ goal.now.conds }
-    ensures exact { IfOk result (λ d. plain_deed d ≡ deed_trying search.now.theory.now
-        search.now.gamma.now (standing state.now) goal.now budget) }
-    ensures rules { IsRulesOf search.now.theory.now state.now.hyps.earlier rules.new }
-{
-    let joining = Joining {
-        alloc: search.alloc,
-        gamma: search.gamma,
-        hyps: &state.hyps,
-    };
-    let mut budget = budget;
-    let reducer = &mut rules.goals.reducer;
-    match joining.join(reducer, &goal.left, &goal.right, &mut budget) {
-        Err(fault) => ends_unless_memory(&fault, false),
-        Ok(joined) => joined_deed(search, reducer, &rules.lemmas, goal, joined, budget),
     }
 }
 

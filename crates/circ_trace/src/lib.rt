@@ -12,6 +12,7 @@ pub mod laws;
 mod lines;
 mod rewriting_deeds;
 mod tracing;
+mod turn_ahead;
 mod turn_lines;
 mod turns;
 mod used;

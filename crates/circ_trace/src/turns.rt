@@ -18,9 +18,9 @@ ghost use Rattle.circ_trace.specs.Descents.{after_turn, given_row};
 ghost use Rattle.circ_trace.specs.TurnText.{turn_text};
 ghost use Rattle.circ_trace.specs.Telling.{IsTold, RulesAreRead};
 
-use crate::accounting::account;
 use crate::descent::Descent;
 use crate::descents::{follow, given};
+use crate::turn_ahead::TurnAhead;
 use crate::turn_lines::put_turn;
 use circ_attempt::laws::{
     derives_are_hypotheses, normal_goals_are_ready, standings_are_small, turns_end,
@@ -118,7 +118,13 @@ fn tell(
         (going (standing state.now) passed.now))) }
     ensures rules { IsRulesOf search.now.theory.now state.now.hyps.earlier rules.new }
 {
-    let account = account(search, rules, passes, passed, state)?;
+    let ahead = TurnAhead {
+        search,
+        passes,
+        passed,
+        state,
+    };
+    let account = ahead.account(rules)?;
     put_turn(search.alloc, search.theory, waiting, state, &account, out)?;
     follow(search.alloc, search.theory, waiting, state, &account)
 }

@@ -96,11 +96,6 @@ cases_here th R S A B s t k left r rules conds h =
     let Q : List Pair → Type 0 = λ x. GivesCases (split_cases_trying th S split_limit x s t k) left r in
     subst Q conds (subst P rules h)
 
--- a pass has used a lemma on the left side, or it has used one where it has on the right side
-pub has_left_uses : (us vs : List TheUse) → (length us == 0) ≡ false → has_links (chain_with (map use_link (plain_uses us)) (map use_link (plain_uses vs))) ≡ true
-has_left_uses [] vs e = absurd (cc)
-has_left_uses (u ∷ us) vs e = refl
-
 -- ---- the links of the goal in hand count no more
 
 pub reduced_unlinked : (th : Theory) (l : Limits) (st : Standing) (rest : List Goal) (why : WhyOf Tree) → goal_reduced th l (unlinked st) rest why ≡ goal_reduced th l st rest why

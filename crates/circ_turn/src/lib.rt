@@ -13,8 +13,7 @@ mod turns;
 
 pub use end::End;
 pub use search::{Limits, Search};
-pub use state::{State, append};
-pub use turns::has_uses;
+pub use state::State;
 
 /// The most steps of a proof.
 pub const MOST_STEPS: u64 = 100_000;

@@ -6,7 +6,7 @@ ghost use Rattle.circ_conditional_search.specs.Search.{with_sides_of};
 ghost use Rattle.circ_proof.specs.Plain.{plain_chain};
 ghost use Rattle.circ_turn.specs.Standing.{standing, unlinked, limits_with, KeepsRest};
 
-use circ_join::Hypotheses;
+use circ_join::{Hypotheses, append};
 use circ_numbering::TermBlock;
 use circ_proof::{Chain, Step};
 use circ_rewrite::share_goals;
@@ -169,20 +169,6 @@ pub(crate) fn put_first(queue: &mut VecDeque<Goal>, goals: Vec<Goal>) -> Result<
     while let Some(goal) = goals.pop() {
         queue.push_front(goal)?;
     }
-    Ok(())
-}
-
-/// Puts the links of a chain behind those of another.
-pub fn append(chain: &mut Chain<Term>, more: Chain<Term>) -> Result<(), AllocError>
-    ensures { OnOk result (plain_chain chain.new
-        ≡ chained (plain_chain chain.old) (plain_chain more)) }
-{
-    let Chain {
-        mut left,
-        mut right,
-    } = more;
-    chain.left.append(&mut left)?;
-    chain.right.append(&mut right)?;
     Ok(())
 }
 

@@ -5,28 +5,27 @@ ghost use Rattle.circ_theory.specs.declared.parts.Goal.{Goal as TheGoal};
 ghost use Rattle.circ_theory.specs.Limits.{condition_limit};
 ghost use Rattle.circ_theory.specs.Theory.{goal};
 ghost use Rattle.circ_plain_search.specs.BlockRules.{block_rules, hidden_lemmas};
-ghost use Rattle.circ_plain_search.specs.Search.{has_links, sides_with, Sides as TheSides};
+ghost use Rattle.circ_plain_search.specs.Search.{sides_with, Sides as TheSides};
 ghost use Rattle.circ_conditional_search.specs.Coming.{IsReadyTrying, IsSmallTrying};
 ghost use Rattle.circ_conditional_search.specs.Search.{goal_turn_trying, sides_turn_trying};
 ghost use Rattle.circ_conditional_search.specs.Search.{join_turn_trying, pass_turn_trying};
 ghost use Rattle.circ_conditional_search.specs.Search.{open_turn_trying, visible_turn_trying};
 ghost use Rattle.circ_conditional_search.specs.Search.{normal_sides_trying, with_sides_of};
-ghost use Rattle.circ_conditional_search.specs.Search.{swept_sides_trying, pass_chain};
+ghost use Rattle.circ_conditional_search.specs.Search.{swept_sides_trying};
 ghost use Rattle.circ_conditional_search.specs.Search.{passed_sides};
 ghost use Rattle.circ_block.specs.Rules.{IsRulesOf};
+ghost use Rattle.circ_join.specs.Sides.{plain_swept_sides};
 ghost use Rattle.circ_join.specs.Trying.{Works};
 ghost use Rattle.circ_join.specs.Uses.{plain_uses};
 ghost use Rattle.circ_proof.specs.Plain.{plain_chain};
 ghost use Rattle.circ_turn.specs.Standing.{standing, manner_of, with_budget};
-ghost use Rattle.circ_own_rules.specs.Sides.{plain_swept_sides};
 ghost use Rattle.circ_turn.specs.Ending.{GoesTo, GivesNormal, swept_turn, reducing};
 
 use crate::end::End;
 use crate::search::Search;
 use crate::state::State;
 use circ_block::BlockRules;
-use circ_join::{HypothesisUse, Joining, Lemmas, Passing, Stop, put_all, use_links};
-use circ_own_rules::SweptSides;
+use circ_join::{HypothesisUse, Joining, Lemmas, Passing, Stop, SweptSides, put_all, use_links};
 use circ_proof::{Chain, Why};
 use circ_rewrite::RewriteFault;
 use circ_split::{Sides, Splitting, normal_sides};
@@ -279,7 +278,7 @@ impl Search<'_> {
             (plain_swept_sides sides)) (standing state.new) result }
         ensures rules { IsRulesOf self.now.theory.now state.old.hyps.earlier rules.new }
     {
-        if !has_uses(&sides) {
+        if !sides.has_uses() {
             drop(sides);
             return self.open_turn(rules, state, goal);
         }
@@ -369,14 +368,4 @@ impl Search<'_> {
             }
         }
     }
-}
-
-/// Whether a pass has used a hypothesis on one of the sides.
-pub fn has_uses(sides: &SweptSides) -> bool
-    ensures { result ≡ has_links (pass_chain (plain_swept_sides sides.now)) }
-{
-    if !sides.left.uses.as_slice().is_empty() {
-        return true;
-    }
-    !sides.right.uses.as_slice().is_empty()
 }

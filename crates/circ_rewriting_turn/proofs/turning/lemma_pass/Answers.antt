@@ -1,4 +1,4 @@
-use Rattle.circ_own_rules.specs.Sides.{plain_swept_sides}
+use Rattle.circ_join.specs.Sides.{plain_swept_sides}
 use Rattle.circ_rewriting_turn.proofs.Going.{pass_here}
 use Rattle.circ_rewriting_turn.proofs.turning.lemma_pass.Goals as goal
 

@@ -5,15 +5,14 @@ use Rattle.circ_term.proofs.Trees.{list_of-trees_of}
 use Rattle.circ_term.proofs.Within.{depth_at}
 use Rattle.circ_term.specs.Order.{is_same}
 use Rattle.circ_plain_search.specs.Joining.{is_place}
-use Rattle.circ_join.specs.Trying.{normaliser_of}
+use Rattle.circ_join.specs.Trying.{normaliser_of, beside_alone}
 use Rattle.circ_join.specs.Uses.{plain_use}
-use Rattle.circ_join.proofs.Joins.{nil_right, not_same, is_same_at, differ_first, differ_second}
+use Rattle.circ_join.proofs.Joins.{nil_right, not_same, is_same_at, differ_first, differ_second, beside_not, beside_joins}
 use Rattle.circ_content_join.specs.Joining.{joined_by_content}
 use Rattle.circ_content_join.specs.Moves.{Using}
-use Rattle.circ_moves.specs.Joining.{beside_alone}
 use Rattle.circ_moves.specs.Plain.{plain_move, plain_moves}
 use Rattle.circ_moves.proofs.Joins.{joined_same, joined_used, joined_inside, joined_hindered, inside_no_application, inside_contents, inside_args, inside_others}
-use Rattle.circ_moves.proofs.Joins.{beside_not, beside_joins, going_start, going_on, going_none, going_hindered, going_short, going_end}
+use Rattle.circ_moves.proofs.Joins.{going_start, going_on, going_none, going_hindered, going_short, going_end}
 use Rattle.circ_moves.proofs.joining.ContentJoining.+join.Goals.{joins_inside-then-op-other_op-via-then-op-other_op, joins_inside-then-op-other_op-via-else-op-other_op+then-sort-other_sort}
 use Rattle.circ_moves.proofs.joining.ContentJoining.+join.Goals as goal
 

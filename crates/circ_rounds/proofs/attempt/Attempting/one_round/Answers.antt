@@ -1,7 +1,7 @@
 use Rattle.std.proofs.Common.{suc, ap, sym, ◌∙◌}
 use Rattle.circ_plain_search.specs.Search.{sides_with, chained}
 use Rattle.circ_proof.specs.Plain.{plain_chain}
-use Rattle.circ_own_rules.specs.Sides.{plain_swept_sides}
+use Rattle.circ_join.specs.Sides.{plain_swept_sides}
 use Rattle.circ_rounds.specs.Attempting.{rounds_in, normal_round_in}
 use Rattle.circ_rounds.specs.Running.{sides_of, stood_of}
 use Rattle.circ_rounds.proofs.Running.{attempts_same, goes_on_same, pass_hindered, pass_ended, pass_gone}

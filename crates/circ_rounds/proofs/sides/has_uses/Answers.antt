@@ -1,8 +1,0 @@
-use Rattle.std.proofs.Common.{sym, ◌∙◌}
-use Rattle.circ_rounds.proofs.Closing.{has_left_uses}
-use Rattle.circ_rounds.proofs.sides.has_uses.Goals as goal
-
-pub returns-then-not-is_empty : goal.returns-then-not-is_empty
-returns-then-not-is_empty c =
-    sym (has_left_uses c.args.swept.now.left.uses.items c.args.swept.now.right.uses.items
-    (rw c.as_slice.ensures.value at (sym c.is_empty.ensures ∙ c.if-not-is_empty.true)))
