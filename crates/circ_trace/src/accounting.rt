@@ -117,12 +117,7 @@ impl TurnAhead<'_, '_, '_> {
     }
 
     // What is done with a goal whose sides are in normal form.
-    fn deed(
-        &self,
-        rules: &mut BlockRules<'_>,
-        goal: &Goal,
-        budget: u64,
-    ) -> Result<Deed, AllocError>
+    fn deed(&self, rules: &mut BlockRules<'_>, goal: &Goal, budget: u64) -> Result<Deed, AllocError>
         requires rules { IsRulesOf self.now.search.now.theory.now self.now.state.now.hyps.earlier
             rules.old }
         requires passes { RulesAreRead self.now.search.now (standing self.now.state.now)

@@ -204,7 +204,14 @@ impl TurnAhead<'_, '_, '_> {
     {
         let mut budget = budget;
         let reducer = &mut rules.goals.reducer;
-        match attempt(self.search, reducer, self.passes, self.state, goal, &mut budget) {
+        match attempt(
+            self.search,
+            reducer,
+            self.passes,
+            self.state,
+            goal,
+            &mut budget,
+        ) {
             Err(fault) => ends_unless_memory(&fault, true),
             Ok(None) => Ok(Deed::Opens { attempted: true }),
             Ok(Some(chain)) => closed_deed(self.search.alloc, &chain),
