@@ -29,7 +29,18 @@ fn name_of_others(cause: &Cause) -> &'static str {
         Cause::Limit { .. } | Cause::LineLimit => "limit",
         Cause::NoGoal => "no goal",
         Cause::Unclosed => "unclosed",
-        _ => "form",
+        Cause::Line => "form",
+        // These have their names above.
+        Cause::NotAscii { .. }
+        | Cause::Control { .. }
+        | Cause::LeftOut { .. }
+        | Cause::Shape
+        | Cause::UnknownTheory
+        | Cause::UnknownSort
+        | Cause::TooLong { .. }
+        | Cause::NoParse
+        | Cause::Ambiguous { .. }
+        | Cause::Twice { .. } => "form",
     }
 }
 
