@@ -1,1 +1,3 @@
+mod Before
 mod Parting
+mod Writing

@@ -4,6 +4,7 @@
 
 mod bounds;
 mod link_steps;
+mod pushing;
 mod reason_steps;
 
 pub use link_steps::links_step;

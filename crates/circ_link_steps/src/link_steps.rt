@@ -1,12 +1,14 @@
 //! The steps of the links of a side.
 ghost use Rattle.std.specs.Prelude.{◌≡◌, ◌∷◌, [], ◌++◌, ◌+◌, IfOk, OnOk, List, map, unwrap_or};
 ghost use Rattle.std.specs.Prelude.{Some, None};
-ghost use Rattle.circ_term.specs.Tree.{at, sort_of, trees_of};
+ghost use Rattle.circ_term.specs.Limits.{first_limit};
+ghost use Rattle.circ_term.specs.Tree.{Tree, at, sort_of, trees_of};
 ghost use Rattle.circ_term.specs.Subst.{BuildsAll};
 ghost use Rattle.circ_term.specs.Substitution.{instance, instances};
 ghost use Rattle.circ_theory.specs.Rewriting.{named, by_terms};
 ghost use Rattle.circ_expansion.specs.Followed.{goal_in};
-ghost use Rattle.circ_expansion.specs.Pieces.{Pieces, Equation_piece, Assumption_piece, Content_piece};
+ghost use Rattle.circ_expansion.specs.Pieces.{Piece, Pieces, Equation_piece, Assumption_piece};
+ghost use Rattle.circ_expansion.specs.Pieces.{Content_piece};
 ghost use Rattle.circ_proof.specs.Plain.{plain_link};
 ghost use Rattle.circ_proof.specs.Link.{resolved_link};
 ghost use Rattle.circ_expansion.specs.Expand.{base, bounds_of, counted, all_tested, around, start_of};
@@ -20,8 +22,11 @@ ghost use Rattle.circ_tasks.specs.Tasks.{call_of, basis_of, target_of, backgroun
 ghost use Rattle.circ_tasks.specs.Tasks.{jobs_of};
 ghost use Rattle.circ_written.specs.Values.{values_of};
 ghost use Rattle.circ_tasks.specs.Tasks.{Steps, stepped, linked, used, hypothesised, link_goes};
+ghost use Rattle.circ_tasks.specs.declared.calls.Frame.{Frame as TheFrame};
+ghost use Rattle.circ_link_steps.specs.Rows.{GivesRow, GivesUse, use_within};
 
 use crate::bounds::bounds_of;
+use crate::pushing::push_task;
 use circ_proof::Link;
 use circ_tasks::{Call, Frame, Halt, Links, Target, Task, Work, all_named, named};
 use circ_term::{Term, TermFault};
@@ -50,14 +55,19 @@ pub fn links_step<'a>(
         work.new result }
 {
     if !work.values.ends_in_row() {
+        drop(links);
         return Err(Halt::Stopped);
     }
     let Some((link, rest)) = links.links.split_first() else {
+        drop(links);
         return Ok(());
     };
     let next = match (&*frame).side(&links.basis).led(link, &links.term) {
         Ok(next) => next,
-        Err(fault) => return Err(Halt::Past(fault)),
+        Err(fault) => {
+            drop(links);
+            return Err(Halt::Past(fault));
+        }
     };
     let more = Links {
         call: links.call,
@@ -141,21 +151,41 @@ fn equation_step<'a>(
         (map (named frame.now.table.now) terms.now))) v us)) work.new result }
 {
     if work.left == 0 {
+        drop(more);
         return Err(Halt::Long);
     }
     work.left -= 1;
+    let row = equation_row(frame, &more, number, way, path, terms);
+    put_row(frame, work, more, row)
+}
+
+// The row of such a link.
+fn equation_row<'a>(
+    frame: &Frame<'a, '_>,
+    more: &Links<'a>,
+    number: u32,
+    way: Way,
+    path: &[u16],
+    terms: &[u32],
+) -> Result<Row, TermFault>
+    ensures row { GivesRow (map (instance (by_of more.now.call.value.by.value))
+        (map (named frame.now.table.now) terms.now))
+        (Equation_piece number way (base (call_of frame.now more.now.call.value) ++ path.now)
+        (map (instance (by_of more.now.call.value.by.value))
+        (map (named frame.now.table.now) terms.now))) result }
+    ensures link { IfOk result IsLink }
+{
     match instances(frame, &more.call, terms) {
         Ok(terms) => {
             let path = frame.path_below(&more.call, path)?;
-            let row = Row::Equation {
+            Ok(Row::Equation {
                 number,
                 way,
                 path,
                 terms,
-            };
-            write(frame, work, more, row)
+            })
         }
-        Err(fault) => Err(Halt::Past(fault)),
+        Err(fault) => Err(fault),
     }
 }
 
@@ -174,12 +204,29 @@ fn assumption_step<'a>(
         (base (call_of frame.now more.entry.call.value) ++ path.now)) v us)) work.new result }
 {
     if work.left == 0 {
+        drop(more);
         return Err(Halt::Long);
     }
     work.left -= 1;
+    let row = assumption_row(frame, &more, number, way, path);
+    put_row(frame, work, more, row)
+}
+
+// The row of such a link.
+fn assumption_row<'a>(
+    frame: &Frame<'a, '_>,
+    more: &Links<'a>,
+    number: u32,
+    way: Way,
+    path: &[u16],
+) -> Result<Row, TermFault>
+    ensures row { GivesRow [] (Assumption_piece (more.now.basis.value.raised + number) way
+        (base (call_of frame.now more.now.call.value) ++ path.now)) result }
+    ensures link { IfOk result IsLink }
+{
     let number = more.basis.raised as u64 + number as u64;
     let path = frame.path_below(&more.call, path)?;
-    write(frame, work, more, Row::Assumption { number, way, path })
+    Ok(Row::Assumption { number, way, path })
 }
 
 // A link by content: what stands at its path becomes another term.
@@ -202,22 +249,44 @@ fn content_step<'a>(
         v us)) work.new result }
 {
     if work.left == 0 {
+        drop(more);
         return Err(Halt::Long);
     }
     work.left -= 1;
+    let row = content_row(frame, &more, term, op, path, new);
+    put_row(frame, work, more, row)
+}
+
+// The row of such a link.
+fn content_row<'a>(
+    frame: &Frame<'a, '_>,
+    more: &Links<'a>,
+    term: &Term,
+    op: u32,
+    path: &[u16],
+    new: u32,
+) -> Result<Row, TermFault>
+    ensures row { GivesRow
+        (instance (by_of more.now.call.value.by.value) (named frame.now.table.now new) ∷ [])
+        (Content_piece op (base (call_of frame.now more.now.call.value) ++ path.now)
+        (unwrap_or (at term.now path.now) term.now) (named frame.now.table.now new)
+        (bounds_of (by_of more.now.call.value.by.value)
+        (unwrap_or (at term.now path.now) term.now) (named frame.now.table.now new))) result }
+    ensures link { IfOk result IsLink }
+{
     let new = named(frame.table, new)?;
     match more.call.by.apply(frame.alloc, &new) {
         Ok(made) => {
             drop(made);
-            let row = content_row(frame, &more.call, term, op, path, new)?;
-            write(frame, work, more, row)
+            let row = content_of(frame, &more.call, term, op, path, new)?;
+            Ok(row)
         }
-        Err(fault) => Err(Halt::Past(fault)),
+        Err(fault) => Err(fault),
     }
 }
 
-// The row of such a link.
-fn content_row(
+// The row by which what stands at a path becomes this term.
+fn content_of(
     frame: &Frame<'_, '_>,
     call: &Call,
     term: &Term,
@@ -243,8 +312,29 @@ fn content_row(
     })
 }
 
-// The whole term to which a link leads is tested, the row is written, and the other links
-// come next.
+// The row of a link is written, if there is one.
+fn put_row<'a>(
+    frame: &Frame<'a, '_>,
+    work: &mut Work<'a>,
+    more: Links<'a>,
+    row: Result<Row, TermFault>,
+) -> Result<(), Halt>
+    requires { IfOk row IsLink }
+    ensures { (ts : List Tree) (x : Piece) → GivesRow ts x row → (v : Pieces) (us : List Value) →
+        (values_of work.old.values) ≡ In_row v ∷ us →
+        Steps frame.now (linked frame.now work.old more.entry ts x v us work.old.left)
+        work.new result }
+{
+    match row {
+        Ok(row) => write(frame, work, more, row),
+        Err(fault) => {
+            drop(more);
+            Err(Halt::Past(fault))
+        }
+    }
+}
+
+// The whole term to which a link leads is tested, and the row is written.
 fn write<'a>(
     frame: &Frame<'a, '_>,
     work: &mut Work<'a>,
@@ -259,13 +349,38 @@ fn write<'a>(
     match frame.around(&more.call, &more.term) {
         Ok(whole) => {
             drop(whole);
-            if work.values.add_row(row)? {
-                work.tasks.push(Task::Links(more))?;
-                return Ok(());
-            }
+            add_row(work, more, row)
+        }
+        Err(fault) => {
+            drop(row);
+            drop(more);
+            Err(Halt::Past(fault))
+        }
+    }
+}
+
+// The row is written, and the other links come next.
+fn add_row<'a>(work: &mut Work<'a>, more: Links<'a>, row: Row) -> Result<(), Halt>
+    requires { IsLink row }
+    ensures { (fr : TheFrame) →
+        first_limit (around (call_of fr more.entry.call.value) more.entry.term) ≡ None →
+        (v : Pieces) (us : List Value) → (values_of work.old.values) ≡ In_row v ∷ us →
+        Steps fr (linked fr work.old more.entry [] (piece_of row) v us work.old.left)
+        work.new result }
+{
+    match work.values.add_row(row) {
+        Ok(true) => {
+            push_task(work, Task::Links(more))?;
+            Ok(())
+        }
+        Ok(false) => {
+            drop(more);
             Err(Halt::Stopped)
         }
-        Err(fault) => Err(Halt::Past(fault)),
+        Err(_) => {
+            drop(more);
+            Err(Halt::Past(TermFault::Memory))
+        }
     }
 }
 
@@ -297,9 +412,15 @@ fn hypothesis_step<'a>(
     match more.call.by.apply(frame.alloc, term) {
         Ok(standing) => match frame.whole_with(&more.call, &standing) {
             Ok(before) => use_hypothesis(frame, work, more, used, &standing, before),
-            Err(fault) => Err(Halt::Past(fault)),
+            Err(fault) => {
+                drop(more);
+                Err(Halt::Past(fault))
+            }
         },
-        Err(fault) => Err(Halt::Past(fault)),
+        Err(fault) => {
+            drop(more);
+            Err(Halt::Past(fault))
+        }
     }
 }
 
@@ -318,23 +439,61 @@ fn use_hypothesis<'a>(
         work.new result }
 {
     if work.left == 0 {
+        drop(more);
         return Err(Halt::Long);
     }
     work.left -= 1;
+    match use_of(frame, &more, used, standing, before) {
+        Ok(call) => {
+            push_use(frame, work, more, used.way, call)?;
+            Ok(())
+        }
+        Err(fault) => {
+            drop(more);
+            Err(Halt::Past(fault))
+        }
+    }
+}
+
+// The use of a hypothesis for what stands there, whose terms and whole term are tested.
+fn use_of<'a>(
+    frame: &Frame<'a, '_>,
+    more: &Links<'a>,
+    used: Used<'_>,
+    standing: &Term,
+    before: Term,
+) -> Result<Rc<Call>, TermFault>
+    ensures { GivesUse frame.now more.now used.entry.number used.entry.way used.entry.path.now
+        (map (named frame.now.table.now) used.entry.terms.now) standing.now before result }
+{
     let terms = match instances(frame, &more.call, used.terms) {
         Ok(terms) => terms,
-        Err(fault) => return Err(Halt::Past(fault)),
+        Err(fault) => return Err(fault),
     };
     let after = match frame.around(&more.call, &more.term) {
         Ok(after) => after,
-        Err(fault) => return Err(Halt::Past(fault)),
+        Err(fault) => return Err(fault),
     };
     let whole = start_of(used.way, before, after);
+    let call = use_with(frame, more, used, standing, whole, terms.as_slice())?;
+    Ok(call)
+}
+
+// The use of a hypothesis in this whole term, with these terms for its variables.
+fn use_with<'a>(
+    frame: &Frame<'a, '_>,
+    more: &Links<'a>,
+    used: Used<'_>,
+    standing: &Term,
+    whole: Term,
+    terms: &[Term],
+) -> Result<Rc<Call>, AllocError>
+    ensures { IfOk result (λ d. call_of frame.now d.value ≡ use_within frame.now more.now
+        used.entry.number used.entry.path.now terms.now standing.now whole) }
+{
     let target = frame.hypothesis(&more.basis, used.number);
-    let by = given_by(frame, target, terms.as_slice())?;
-    let call = hypothesis_call(frame, &more.call, target, whole, standing, used.path, by)?;
-    push_use(frame, work, more, used.way, call)?;
-    Ok(())
+    let by = given_by(frame, target, terms)?;
+    hypothesis_call(frame, &more.call, target, whole, standing, used.path, by)
 }
 
 // A use is next, then goes behind the last row in this way, and then the other links come.
@@ -351,10 +510,34 @@ fn push_use<'a>(
     ensures values { work.new.values ≡ work.old.values }
     ensures left { work.new.left ≡ work.old.left }
 {
-    work.tasks.push(Task::Links(more))?;
-    work.tasks.push(Task::PutBehind(way))?;
-    work.tasks.push(Task::EnterUse(call))?;
-    Ok(())
+    match push_task(work, Task::Links(more)) {
+        Ok(()) => push_behind(frame, work, way, call),
+        Err(fault) => {
+            drop(call);
+            Err(fault)
+        }
+    }
+}
+
+// A use is next, and then goes behind the last row in this way.
+fn push_behind<'a>(
+    frame: &Frame<'a, '_>,
+    work: &mut Work<'a>,
+    way: Way,
+    call: Rc<Call>,
+) -> Result<(), AllocError>
+    ensures tasks { OnOk result (jobs_of frame.now work.new ≡
+        Enter_use (call_of frame.now call.value) ∷ Put_behind way ∷ jobs_of frame.now work.old) }
+    ensures values { work.new.values ≡ work.old.values }
+    ensures left { work.new.left ≡ work.old.left }
+{
+    match push_task(work, Task::PutBehind(way)) {
+        Ok(()) => push_task(work, Task::EnterUse(call)),
+        Err(fault) => {
+            drop(call);
+            Err(fault)
+        }
+    }
 }
 
 // The substitution of a hypothesis: terms for its variables in order.

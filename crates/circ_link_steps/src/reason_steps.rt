@@ -7,6 +7,8 @@ ghost use Rattle.circ_theory.specs.Observing.{case_list};
 ghost use Rattle.circ_expansion.specs.Pieces.{no_piece};
 ghost use Rattle.circ_expansion.specs.Expand.{around, cases_at, case_basis, stood};
 ghost use Rattle.circ_expansion.specs.Machine.{In_row, Begin_split, End_split, Give_reason};
+ghost use Rattle.circ_expansion.specs.Machine.{Links as Links_job, Empty_row};
+ghost use Rattle.circ_proof.specs.declared.links.Why.{Same};
 ghost use Rattle.circ_expansion.specs.Machine.{Add_part, task_step, all_uses};
 ghost use Rattle.circ_uses.specs.Uses.{BuildsLast};
 ghost use Rattle.circ_uses.specs.Valuations.{by_of};
@@ -15,8 +17,11 @@ ghost use Rattle.circ_tasks.specs.Tasks.{reason_job, reasons_job};
 ghost use Rattle.circ_written.specs.Values.{values_of};
 ghost use Rattle.circ_tasks.specs.Tasks.{Steps, StepsAlike, stepped, split_term, why_at};
 ghost use Rattle.circ_tasks.specs.Tasks.{jobs_of, begun_sides, assumed, case_list_of};
-ghost use Rattle.circ_link_steps.specs.Splits.{GivesSplit, split_jobs, split_stepped};
+ghost use Rattle.circ_tasks.specs.Tasks.{links_at, links_job};
+ghost use Rattle.circ_link_steps.specs.Splits.{GivesSplit, PutsSplit, split_jobs, split_stepped};
+ghost use Rattle.circ_link_steps.specs.Splits.{GivesCase};
 
+use crate::pushing::push_task;
 use circ_proof::{Chain, Why};
 use circ_tasks::{Basis, Call, Frame, Halt, Links, Reason, Reasons, Task, Work, named};
 use circ_term::{Term, TermFault};
@@ -34,23 +39,59 @@ pub fn reason_step<'a>(
         work.new result }
 {
     match reason.why {
-        Why::Same { chain } => {
-            work.tasks.push(Task::PutBehind(Way::Back))?;
-            begin_sides(
-                frame,
-                work,
-                reason.call,
-                reason.basis,
-                chain,
-                reason.left,
-                reason.right,
-            )?;
-            Ok(())
-        }
+        Why::Same { chain } => same_step(frame, work, reason, chain),
         Why::Split { chain, term, whys } => {
             split_step(frame, work, reason, chain, *term, whys.as_slice())
         }
     }
+}
+
+// The links on both sides are all.
+fn same_step<'a>(
+    frame: &Frame<'a, '_>,
+    work: &mut Work<'a>,
+    reason: Reason<'a>,
+    chain: &'a Chain,
+) -> Result<(), Halt>
+    ensures { reason.entry.why.now ≡ Same chain.now →
+        Steps frame.now (stepped frame.now (reason_job frame.now reason.entry) work.old)
+        work.new result }
+{
+    match push_task(work, Task::PutBehind(Way::Back)) {
+        Ok(()) => {
+            begin_reason(frame, work, reason, chain)?;
+            Ok(())
+        }
+        Err(_) => {
+            drop(reason);
+            Err(Halt::Past(TermFault::Memory))
+        }
+    }
+}
+
+// The links on both sides of a reason are next.
+fn begin_reason<'a>(
+    frame: &Frame<'a, '_>,
+    work: &mut Work<'a>,
+    reason: Reason<'a>,
+    chain: &'a Chain,
+) -> Result<(), AllocError>
+    ensures tasks { OnOk result (jobs_of frame.now work.new ≡
+        begun_sides frame.now reason.entry.call.value reason.entry.basis.value chain.now
+        reason.entry.left reason.entry.right (jobs_of frame.now work.old)) }
+    ensures values { OnOk result (values_of work.new.values ≡
+        In_row no_piece ∷ values_of work.old.values) }
+    ensures left { work.new.left ≡ work.old.left }
+{
+    begin_sides(
+        frame,
+        work,
+        reason.call,
+        reason.basis,
+        chain,
+        reason.left,
+        reason.right,
+    )
 }
 
 /// The links on both sides, each in a row of its own, are next.
@@ -70,21 +111,63 @@ pub fn begin_sides<'a>(
         In_row no_piece ∷ values_of work.old.values) }
     ensures left { work.new.left ≡ work.old.left }
 {
-    work.values.add_empty()?;
-    work.tasks.push(Task::Links(Links {
-        call: call.clone()?,
-        basis: basis.clone()?,
-        links: chain.right.as_slice(),
-        term: right,
-    }))?;
-    work.tasks.push(Task::EmptyRow)?;
-    work.tasks.push(Task::Links(Links {
+    let side = Links {
         call,
         basis,
         links: chain.left.as_slice(),
         term: left,
-    }))?;
-    Ok(())
+    };
+    match begin_right(frame, work, &side, chain, right) {
+        Ok(()) => push_task(work, Task::Links(side)),
+        Err(fault) => {
+            drop(side);
+            Err(fault)
+        }
+    }
+}
+
+// A row begins, and the links of the right side are next, in the same use as those of the left.
+fn begin_right<'a>(
+    frame: &Frame<'a, '_>,
+    work: &mut Work<'a>,
+    side: &Links<'a>,
+    chain: &'a Chain,
+    right: Term,
+) -> Result<(), AllocError>
+    ensures tasks { OnOk result (jobs_of frame.now work.new ≡ Empty_row ∷
+        Links_job (call_of frame.now side.now.call.value)
+        (basis_of frame.now side.now.basis.value)
+        (links_at frame.now chain.now.right.items) right ∷ jobs_of frame.now work.old) }
+    ensures values { OnOk result (values_of work.new.values ≡
+        In_row no_piece ∷ values_of work.old.values) }
+    ensures left { work.new.left ≡ work.old.left }
+{
+    work.values.add_empty()?;
+    let right = right_of(frame, side, chain, right)?;
+    push_task(work, Task::Links(right))?;
+    push_task(work, Task::EmptyRow)
+}
+
+// The links of the right side.
+fn right_of<'a>(
+    frame: &Frame<'a, '_>,
+    side: &Links<'a>,
+    chain: &'a Chain,
+    right: Term,
+) -> Result<Links<'a>, AllocError>
+    ensures { IfOk result (λ l. links_job frame.now l ≡
+        Links_job (call_of frame.now side.now.call.value)
+        (basis_of frame.now side.now.basis.value)
+        (links_at frame.now chain.now.right.items) right) }
+{
+    let call = side.call.clone()?;
+    let basis = side.basis.clone()?;
+    Ok(Links {
+        call,
+        basis,
+        links: chain.right.as_slice(),
+        term: right,
+    })
 }
 
 // The cases of a term stand between the links of both sides.
@@ -99,21 +182,36 @@ fn split_step<'a>(
     ensures { Steps frame.now (split_stepped frame.now reason.entry chain.now term whys.now
         (jobs_of frame.now work.old) (values_of work.old.values) work.old.left) work.new result }
 {
-    let split = match split_of(frame, &reason, chain, term, whys) {
-        Ok(split) => split,
-        Err(halt) => return Err(halt),
-    };
-    push_split(frame, work, split)?;
-    begin_sides(
-        frame,
-        work,
-        reason.call,
-        reason.basis,
-        chain,
-        reason.left,
-        reason.right,
-    )?;
-    Ok(())
+    match next_split(frame, work, &reason, chain, term, whys) {
+        Ok(()) => {
+            begin_reason(frame, work, reason, chain)?;
+            Ok(())
+        }
+        Err(halt) => {
+            drop(reason);
+            Err(halt)
+        }
+    }
+}
+
+// The split of a term is next.
+fn next_split<'a>(
+    frame: &Frame<'a, '_>,
+    work: &mut Work<'a>,
+    reason: &Reason<'a>,
+    chain: &'a Chain,
+    term: u32,
+    whys: &'a [Why],
+) -> Result<(), Halt>
+    ensures { PutsSplit frame.now reason.now chain.now term whys.now work.old work.new result }
+{
+    match split_of(frame, reason, chain, term, whys) {
+        Ok(split) => {
+            push_split(frame, work, split)?;
+            Ok(())
+        }
+        Err(halt) => Err(halt),
+    }
 }
 
 // The split of a term between the ends of both sides.
@@ -167,9 +265,13 @@ fn push_split<'a>(
     ensures values { work.new.values ≡ work.old.values }
     ensures left { work.new.left ≡ work.old.left }
 {
-    work.tasks.push(Task::PutBetween)?;
-    work.tasks.push(Task::Split(split))?;
-    Ok(())
+    match push_task(work, Task::PutBetween) {
+        Ok(()) => push_task(work, Task::Split(split)),
+        Err(fault) => {
+            drop(split);
+            Err(fault)
+        }
+    }
 }
 
 // The constants of the case list of a term's sort.
@@ -202,13 +304,33 @@ pub fn begin_split<'a>(
     work.left -= 1;
     match split.call.by.apply(frame.alloc, &split.term) {
         Ok(term) => {
-            work.tasks.push(Task::EndSplit(term))?;
-            work.tasks.push(Task::GiveReasons(split))?;
+            push_begun(frame, work, split, term)?;
             Ok(())
         }
         Err(fault) => {
             drop(split);
             Err(Halt::Past(fault))
+        }
+    }
+}
+
+// The reasons of a split are next, and then it is ended.
+fn push_begun<'a>(
+    frame: &Frame<'a, '_>,
+    work: &mut Work<'a>,
+    split: Reasons<'a>,
+    term: Term,
+) -> Result<(), AllocError>
+    ensures tasks { OnOk result (jobs_of frame.now work.new ≡
+        reasons_job frame.now split.entry ∷ End_split term ∷ jobs_of frame.now work.old) }
+    ensures values { work.new.values ≡ work.old.values }
+    ensures left { work.new.left ≡ work.old.left }
+{
+    match push_task(work, Task::EndSplit(term)) {
+        Ok(()) => push_task(work, Task::GiveReasons(split)),
+        Err(fault) => {
+            drop(split);
+            Err(fault)
         }
     }
 }
@@ -232,26 +354,50 @@ pub fn reasons_step<'a>(
         work.values.add_no_part()?;
         return Ok(());
     };
-    let whole = match standing(frame, &reasons) {
-        Ok(whole) => whole,
+    case_step(frame, work, reasons, why, whys, *constant, constants)
+}
+
+// The reason of this case is next, and then come these.
+fn case_step<'a>(
+    frame: &Frame<'a, '_>,
+    work: &mut Work<'a>,
+    mut reasons: Reasons<'a>,
+    why: &'a Why,
+    whys: &'a [Why],
+    constant: u32,
+    constants: &'a [u32],
+) -> Result<(), Halt>
+    ensures { reasons.entry.whys.now ≡ why.now ∷ whys.now →
+        reasons.entry.constants.now ≡ constant ∷ constants.now → StepsAlike frame.now
+        (stepped frame.now (reasons_job frame.now reasons.entry) work.old) work.new result }
+{
+    match tested_case(frame, &reasons, why, constant) {
+        Ok(case) => {
+            reasons.whys = whys;
+            reasons.constants = constants;
+            give_reasons(frame, work, case, reasons)?;
+            Ok(())
+        }
         Err(fault) => {
             drop(reasons);
-            return Err(Halt::Past(fault));
+            Err(Halt::Past(fault))
         }
-    };
-    let case = case(frame, &reasons, why, *constant, whole)?;
-    let rest = Reasons {
-        call: reasons.call,
-        basis: reasons.basis,
-        whys,
-        term: reasons.term,
-        all: reasons.all,
-        constants,
-        left: reasons.left,
-        right: reasons.right,
-    };
-    give_reasons(frame, work, case, rest)?;
-    Ok(())
+    }
+}
+
+// The reason of this case, whose whole term is tested.
+fn tested_case<'a>(
+    frame: &Frame<'a, '_>,
+    reasons: &Reasons<'a>,
+    why: &'a Why,
+    constant: u32,
+) -> Result<Reason<'a>, TermFault>
+    ensures { GivesCase frame.now reasons.now why.now constant result }
+{
+    match standing(frame, reasons) {
+        Ok(whole) => Ok(case(frame, reasons, why, constant, whole)?),
+        Err(fault) => Err(fault),
+    }
 }
 
 // A reason is next, then others, and then they are a part.
@@ -266,10 +412,34 @@ fn give_reasons<'a>(
     ensures values { work.new.values ≡ work.old.values }
     ensures left { work.new.left ≡ work.old.left }
 {
-    work.tasks.push(Task::AddPart)?;
-    work.tasks.push(Task::GiveReasons(rest))?;
-    work.tasks.push(Task::GiveReason(first))?;
-    Ok(())
+    match push_task(work, Task::AddPart) {
+        Ok(()) => give_both(frame, work, first, rest),
+        Err(fault) => {
+            drop(first);
+            drop(rest);
+            Err(fault)
+        }
+    }
+}
+
+fn give_both<'a>(
+    frame: &Frame<'a, '_>,
+    work: &mut Work<'a>,
+    first: Reason<'a>,
+    rest: Reasons<'a>,
+) -> Result<(), AllocError>
+    ensures tasks { OnOk result (jobs_of frame.now work.new ≡ reason_job frame.now first.entry ∷
+        reasons_job frame.now rest.entry ∷ jobs_of frame.now work.old) }
+    ensures values { work.new.values ≡ work.old.values }
+    ensures left { work.new.left ≡ work.old.left }
+{
+    match push_task(work, Task::GiveReasons(rest)) {
+        Ok(()) => push_task(work, Task::GiveReason(first)),
+        Err(fault) => {
+            drop(first);
+            Err(fault)
+        }
+    }
 }
 
 // The whole term in which a case begins.

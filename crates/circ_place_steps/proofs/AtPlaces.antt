@@ -18,12 +18,14 @@ use Rattle.circ_entry.specs.Entries.{Numbered, derivative_at}
 use Rattle.circ_expansion.specs.Followed.{put_or_same, led_all}
 use Rattle.circ_expansion.specs.Pieces.{Pieces, no_piece}
 use Rattle.circ_expansion.specs.Expand.{Spending, Yields, Stopped, counted, tested, all_tested, Call as Use, Layer, At_place, By_entry, layered, risen, start_at, no_basis, certified_call}
-use Rattle.circ_expansion.specs.Expand.{trail, paths_of, arg_sort, whole_with, place_terms, guard_case, occurrence_call, No_case, Visible_case, Place_case, Hidden_case, places_on, entry_in}
+use Rattle.circ_expansion.specs.Expand.{base, trail, paths_of, arg_sort, whole_with, place_terms, guard_case, occurrence_call, No_case, Visible_case, Place_case, Hidden_case, places_on, entry_in}
 use Rattle.circ_expansion.specs.Machine.{Value, In_row, Pending, pending, Task as Job, Links as Links_job, Occurrences, Empty_row, Put_behind, Put_between, place_step, case_step, Enter_use}
 use Rattle.circ_expansion.specs.Machine.{occurrences_step, all_uses, on_row}
 use Rattle.circ_written.specs.Nodes.{ends_in_row}
 use Rattle.circ_uses.specs.Paths.{plain_paths}
-use Rattle.circ_uses.specs.Uses.{first_of, BuildsLast}
+use Rattle.circ_uses.specs.Uses.{first_of, entries_of, BuildsLast}
+use Rattle.circ_uses.specs.Fronts.{front}
+use Rattle.circ_uses.specs.declared.uses.Held.{Held}
 use Rattle.circ_proof.specs.Plain.{LinkOf, plain_links}
 use Rattle.circ_proof.specs.Link.{Setting, resolved_links}
 use Rattle.circ_proof.specs.declared.links.Link.{Link}
@@ -32,6 +34,7 @@ use Rattle.circ_written.specs.Values.{values_of}
 use Rattle.circ_uses.specs.Valuations.{by_of}
 use Rattle.circ_tasks.specs.Tasks.{call_of, background_in, jobs_of, pending_of, links_at, place_of, place_stepped, certificate_setting, certificate_terms}
 use Rattle.circ_tasks.specs.Tasks.{left_side, right_side, changes_job, change_stepped, stepped, layers_in, Halts, FindsCase, IsAlong}
+use Rattle.circ_place_steps.specs.Changed.{changed_on, IsVisible}
 use Rattle.circ_place_steps.specs.Places.{IsCertificate, AreEnds, begun_place}
 use Rattle.std.specs.Result.{IfOk}
 use Rattle.std.specs.declared.alloc.AllocError.{AllocError}
@@ -216,16 +219,6 @@ take_within (suc n) (x ∷ xs) =
 
 -- ---- the step of an occurrence, test by test
 
--- what is put in the place of the occurrences
-abbrev pub changed_on : Frame → Changes → (path : List ℕ) → (here : Tree) → Pieces → List Value → Work → ℕ → Spending Pending
-changed_on fr x p here v us w n =
-    let f = background_in fr in
-    let c = call_of fr x.call.value in
-    let k = guard_case f.theory f.places x.last p in
-    let u = put_or_same here p x.new in
-    case_step (all_uses f) f k (occurrence_call (all_uses f) f c (layers_in fr x.layers) here p k)
-    (Put_behind Forth ∷ Occurrences c (layers_in fr x.layers) x.new x.last (drop (x.done + 1) (plain_paths x.paths.value.items)) u ∷ jobs_of fr w) (In_row v ∷ us) n
-
 pub here_past : (fr : Frame) (x : Changes) (p : List ℕ) (here : Tree) (v : Pieces) (us : List Value) (w : Work) (e : TermFault) → first_limit here ≡ None
     → Names e (first_limit (whole_with (call_of fr x.call.value) here)) → Halts (change_stepped fr x p here v us w) (halt.Past e)
 here_past fr x p here v us w e a n =
@@ -245,37 +238,27 @@ here_on fr x p here v us w a b =
     let G : ℕ → Spending Pending = λ m. tested u (tested (whole_with c u) (changed_on fr x p here v us w m)) in
     tests_none (here ∷ whole_with c here ∷ []) (counted w.left G) (first_more here (whole_with c here ∷ []) a (first_alone (whole_with c here) b))
 
+-- what it becomes is past a limit, or the whole term round that
 pub next_past : (fr : Frame) (x : Changes) (p : List ℕ) (here : Tree) (v : Pieces) (us : List Value) (w : Work) (n : ℕ) (e : TermFault) → first_limit here ≡ None
-    → first_limit (whole_with (call_of fr x.call.value) here) ≡ None → w.left ≡ suc n → Names e (first_limit (put_or_same here p x.new))
+    → first_limit (whole_with (call_of fr x.call.value) here) ≡ None → w.left ≡ suc n
+    → Names e (first_of (put_or_same here p x.new ∷ whole_with (call_of fr x.call.value) (put_or_same here p x.new) ∷ []))
     → Halts (change_stepped fr x p here v us w) (halt.Past e)
 next_past fr x p here v us w n e a b l h =
     let c = call_of fr x.call.value in
     let u = put_or_same here p x.new in
     let G : ℕ → Spending Pending = λ m. tested u (tested (whole_with c u) (changed_on fr x p here v us w m)) in
     halts_past (change_stepped fr x p here v us w) (G n) e (here_on fr x p here v us w a b ∙ counted_one w.left n G l)
-    (names_tested u (tested (whole_with c u) (changed_on fr x p here v us w n)) e h)
-
-pub whole_past : (fr : Frame) (x : Changes) (p : List ℕ) (here : Tree) (v : Pieces) (us : List Value) (w : Work) (n : ℕ) (e : TermFault) → first_limit here ≡ None
-    → first_limit (whole_with (call_of fr x.call.value) here) ≡ None → w.left ≡ suc n → first_limit (put_or_same here p x.new) ≡ None
-    → Names e (first_limit (whole_with (call_of fr x.call.value) (put_or_same here p x.new))) → Halts (change_stepped fr x p here v us w) (halt.Past e)
-whole_past fr x p here v us w n e a b l d h =
-    let c = call_of fr x.call.value in
-    let u = put_or_same here p x.new in
-    let o = changed_on fr x p here v us w n in
-    let G : ℕ → Spending Pending = λ m. tested u (tested (whole_with c u) (changed_on fr x p here v us w m)) in
-    halts_past (change_stepped fr x p here v us w) (tested (whole_with c u) o) e
-    (here_on fr x p here v us w a b ∙ counted_one w.left n G l ∙ tested_none u (tested (whole_with c u) o) d) (names_tested (whole_with c u) o e h)
+    (names_tests (u ∷ whole_with c u ∷ []) (changed_on fr x p here v us w n) e h)
 
 pub changes_on : (fr : Frame) (x : Changes) (p : List ℕ) (here : Tree) (v : Pieces) (us : List Value) (w : Work) (n : ℕ) → first_limit here ≡ None
-    → first_limit (whole_with (call_of fr x.call.value) here) ≡ None → w.left ≡ suc n → first_limit (put_or_same here p x.new) ≡ None
-    → first_limit (whole_with (call_of fr x.call.value) (put_or_same here p x.new)) ≡ None
+    → first_limit (whole_with (call_of fr x.call.value) here) ≡ None → w.left ≡ suc n
+    → first_of (put_or_same here p x.new ∷ whole_with (call_of fr x.call.value) (put_or_same here p x.new) ∷ []) ≡ None
     → change_stepped fr x p here v us w ≡ changed_on fr x p here v us w n
-changes_on fr x p here v us w n a b l d h =
+changes_on fr x p here v us w n a b l none =
     let c = call_of fr x.call.value in
     let u = put_or_same here p x.new in
-    let o = changed_on fr x p here v us w n in
     let G : ℕ → Spending Pending = λ m. tested u (tested (whole_with c u) (changed_on fr x p here v us w m)) in
-    here_on fr x p here v us w a b ∙ counted_one w.left n G l ∙ tested_none u (tested (whole_with c u) o) d ∙ tested_none (whole_with c u) o h
+    here_on fr x p here v us w a b ∙ counted_one w.left n G l ∙ tests_none (u ∷ whole_with c u ∷ []) (changed_on fr x p here v us w n) none
 
 -- where no case holds nothing fits
 pub changed_none : (fr : Frame) (x : Changes) (p : List ℕ) (here : Tree) (v : Pieces) (us : List Value) (w : Work) (n : ℕ)
@@ -335,6 +318,12 @@ pub all_paths : (ps : List (Vec ℕ)) → drop 0 (plain_paths ps) ≡ plain_path
 all_paths [] = refl
 all_paths (p ∷ ps) = refl
 
+-- a job that is another
+pub changes_same : (fr : Frame) (r : Result Changes AllocError) (here : Tree) (F : Tree → Job) (j : Job) → IfOk r (λ x. (t : Tree) → changes_job fr x t ≡ F t)
+    → F here ≡ j → IfOk r (λ x. changes_job fr x here ≡ j)
+changes_same fr (Ok x) here F j h e = h here ∙ e
+changes_same fr (Err k) here F j h e = tt
+
 -- ---- the use for an occurrence, by its case
 
 pub finds_visible : (fr : Frame) (x : Changes) (u : Tree) (p q : List ℕ) (here : Tree) (k : ℕ) (r : Result (Option (Rc Call Global)) AllocError)
@@ -342,6 +331,23 @@ pub finds_visible : (fr : Frame) (x : Changes) (u : Tree) (p q : List ℕ) (here
 finds_visible fr x u p q here k (Ok (Some d)) h = h
 finds_visible fr x u p q here k (Ok None) h = h
 finds_visible fr x u p q here k (Err e) h = tt
+
+pub visible_found : (fr : Frame) (x : Changes) (u : Tree) (q : List ℕ) (here : Tree) (k : ℕ) (ps : List ℕ) (es : Front Held) (r : Result (Option (Rc Call Global)) AllocError)
+    → ps ≡ base (call_of fr x.call.value) ++ q → entries_of fr.theory.now (front es) ≡ entry_in fr.theory.now k (unwrap_or (at here q) here) ∷ []
+    → IfOk r (IsVisible x.call.value x.layers u ps es) → IfOk r (FindsCase fr x u q here (Visible_case k q))
+visible_found fr x u q here k ps es (Ok (Some d)) a b h = λ w js vs n.
+    let c = call_of fr x.call.value in
+    let same : call_of fr d.value
+    ≡ record c {
+      whole = whole_with c here;
+      path = base c ++ q;
+      entries = entry_in fr.theory.now k (unwrap_or (at here q) here) ∷ [];
+      along = Some (layers_in fr x.layers);
+    } =
+    h fr ∙ (λ i. record c { whole = w i; path = a i; entries = b i; along = Some (layers_in fr x.layers) }) in
+    λ i. Yields (pending (Enter_use (sym same i) ∷ js) vs) n
+visible_found fr x u q here k ps es (Ok None) a b h = absurd h
+visible_found fr x u q here k ps es (Err e) a b h = tt
 
 pub finds_place : (fr : Frame) (x : Changes) (u : Tree) (p : List ℕ) (here : Tree) (ys : Front Kept) (r : Result (Option (Rc Call Global)) AllocError)
     → layers_in fr ys ≡ places_on here p ++ layers_in fr x.layers → IfOk r (IsAlong x.call.value u ys) → IfOk r (FindsCase fr x u p here Place_case)

@@ -1,2 +1,3 @@
 mod AtPlaces
+mod Before
 mod Chosen

@@ -53,8 +53,11 @@ abbrev pub occurrences_job : Frame → Call → Place → List Layer → List Nu
 occurrences_job fr c g xs es x e =
     Occurrences (record (call_of fr c) { entries = es }) xs e.new x.last (paths_of 0 (arg_sort fr.theory.now g) x.last) (instance (by_of e.left.value) x.last)
 
+-- the links of the certificate from both sides, before others
+abbrev pub begun_sides : Frame → Call → List Numbered → Certificate → Ends → List Job → List Job
+begun_sides fr c es x e js =
+    certificate_job fr c es x e.left.value ∷ Empty_row ∷ certificate_job fr c es x e.right.value ∷ Empty_row ∷ js
+
 -- both sides of a place, before others
 abbrev pub begun_place : Frame → Call → Place → List Layer → List Numbered → Certificate → Ends → List Job → List Job
-begun_place fr c g xs es x e js =
-    certificate_job fr c es x e.left.value ∷ Empty_row ∷ certificate_job fr c es x e.right.value ∷ Empty_row ∷ occurrences_job fr c g xs es x e ∷ Put_between
-    ∷ js
+begun_place fr c g xs es x e js = begun_sides fr c es x e (occurrences_job fr c g xs es x e ∷ Put_between ∷ js)

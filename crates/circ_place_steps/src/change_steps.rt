@@ -1,5 +1,5 @@
 //! The steps of the occurrences in the last term of a certificate.
-ghost use Rattle.std.specs.Prelude.{◌≡◌, ◌+◌, ◌∷◌, ◌++◌, [], List, IfOk, OnOk, unwrap_or};
+ghost use Rattle.std.specs.Prelude.{◌≡◌, ◌+◌, ◌∷◌, ◌++◌, [], List, IfOk, OnOk, unwrap_or, None};
 ghost use Rattle.circ_term.specs.Tree.{Tree, at};
 ghost use Rattle.circ_term.specs.Substitution.{instance};
 ghost use Rattle.circ_expansion.specs.Pieces.{Pieces};
@@ -12,10 +12,14 @@ ghost use Rattle.circ_written.specs.Values.{values_of};
 ghost use Rattle.circ_theory.specs.declared.way.Way.TheVariants.{Forth};
 ghost use Rattle.circ_tasks.specs.Tasks.{Steps, stepped, call_of, jobs_of};
 ghost use Rattle.circ_tasks.specs.Tasks.{changes_job, layers_in, change_stepped, FindsCase, IsAlong};
-ghost use Rattle.circ_tasks.specs.declared.calls.Frame.{Frame as TheFrame};
+ghost use Rattle.circ_term.specs.Limits.{first_limit};
+ghost use Rattle.circ_expansion.specs.Followed.{put_or_same};
+ghost use Rattle.circ_expansion.specs.Expand.{whole_with};
+ghost use Rattle.circ_uses.specs.Uses.{BuildsLast};
+ghost use Rattle.circ_place_steps.specs.Changed.{changed_on, IsVisible};
 
 use circ_tasks::{Call, Changes, Frame, Halt, Task, Work};
-use circ_term::Term;
+use circ_term::{Term, TermFault};
 use circ_theory::Way;
 use circ_uses::{By, Front, Guard, Held, Layer, Occurrence, add_places, first, matching, put};
 use std::alloc::{AllocError, Global};
@@ -31,16 +35,17 @@ pub fn changes_step<'a>(
     ensures { Steps frame.now (stepped frame.now (changes_job frame.now changes here) work.old)
         work.new result }
 {
-    next_change(frame, work, &changes, here)
+    next_change(frame, work, &changes, &here)
 }
 
 fn next_change<'a>(
     frame: &Frame<'a, '_>,
     work: &mut Work<'a>,
     changes: &Changes,
-    here: Term,
+    here: &Term,
 ) -> Result<(), Halt>
-    ensures { Steps frame.now (stepped frame.now (changes_job frame.now changes.now here) work.old)
+    ensures { Steps frame.now
+        (stepped frame.now (changes_job frame.now changes.now here.now) work.old)
         work.new result }
 {
     if !work.values.ends_in_row() {
@@ -81,7 +86,7 @@ fn first_change<'a>(
         return Ok(());
     };
     match by.apply(frame.alloc, &changes.last) {
-        Ok(here) => change(frame, work, changes, path.as_slice(), here),
+        Ok(here) => change(frame, work, changes, path.as_slice(), &here),
         Err(fault) => Err(Halt::Past(fault)),
     }
 }
@@ -92,36 +97,101 @@ fn change<'a>(
     work: &mut Work<'a>,
     changes: &Changes,
     path: &[u16],
-    here: Term,
+    here: &Term,
 ) -> Result<(), Halt>
     ensures { (v : Pieces) (us : List Value) → values_of work.old.values ≡ In_row v ∷ us →
-        Steps frame.now (change_stepped frame.now changes.now path.now here v us work.old)
+        Steps frame.now (change_stepped frame.now changes.now path.now here.now v us work.old)
         work.new result }
 {
     here.known();
-    let call = &changes.call;
-    let whole = match frame.whole_with(call, &here) {
-        Ok(whole) => whole,
-        Err(fault) => return Err(Halt::Past(fault)),
-    };
+    match frame.whole_with(&changes.call, here) {
+        Ok(whole) => change_in(frame, work, changes, path, here, whole),
+        Err(fault) => Err(Halt::Past(fault)),
+    }
+}
+
+// The same in this whole term.
+fn change_in<'a>(
+    frame: &Frame<'a, '_>,
+    work: &mut Work<'a>,
+    changes: &Changes,
+    path: &[u16],
+    here: &Term,
+    whole: Term,
+) -> Result<(), Halt>
+    ensures { first_limit here.now ≡ None → first_limit whole ≡ None →
+        whole ≡ whole_with (call_of frame.now changes.now.call.value) here.now →
+        (v : Pieces) (us : List Value) → values_of work.old.values ≡ In_row v ∷ us →
+        Steps frame.now (change_stepped frame.now changes.now path.now here.now v us work.old)
+        work.new result }
+{
     if work.left == 0 {
         return Err(Halt::Long);
     }
     work.left -= 1;
-    let next = match put(frame.alloc, &here, path, &changes.new) {
-        Ok(next) => next,
-        Err(fault) => return Err(Halt::Past(fault)),
-    };
-    match frame.whole_with(call, &next) {
-        Ok(_) => {}
-        Err(fault) => return Err(Halt::Past(fault)),
+    match changed(frame, changes, path, here) {
+        Ok(next) => change_to(frame, work, changes, path, here, whole, next),
+        Err(fault) => Err(Halt::Past(fault)),
     }
-    let guard = guard(frame, &changes.last, path)?;
-    let Some(call) = occurrence_call(frame, changes, whole, path, &here, guard)? else {
+}
+
+// What the occurrence's term becomes. The whole term round it is tested.
+fn changed(
+    frame: &Frame<'_, '_>,
+    changes: &Changes,
+    path: &[u16],
+    here: &Term,
+) -> Result<Term, TermFault>
+    ensures { BuildsLast result (put_or_same here.now path.now changes.now.new ∷
+        whole_with (call_of frame.now changes.now.call.value)
+        (put_or_same here.now path.now changes.now.new) ∷ [])
+        (put_or_same here.now path.now changes.now.new) }
+{
+    match put(frame.alloc, here, path, &changes.new) {
+        Ok(next) => match frame.whole_with(&changes.call, &next) {
+            Ok(_) => Ok(next),
+            Err(fault) => Err(fault),
+        },
+        Err(fault) => Err(fault),
+    }
+}
+
+// The use for the occurrence is next, if it is guarded.
+fn change_to<'a>(
+    frame: &Frame<'a, '_>,
+    work: &mut Work<'a>,
+    changes: &Changes,
+    path: &[u16],
+    here: &Term,
+    whole: Term,
+    next: Term,
+) -> Result<(), Halt>
+    ensures { whole ≡ whole_with (call_of frame.now changes.now.call.value) here.now →
+        next ≡ put_or_same here.now path.now changes.now.new →
+        (v : Pieces) (us : List Value) → values_of work.old.values ≡ In_row v ∷ us →
+        Steps frame.now (changed_on frame.now changes.now path.now here.now v us work.old
+        work.old.left) work.new result }
+{
+    let Some(call) = guarded_call(frame, changes, whole, path, here)? else {
         return Err(Halt::Stopped);
     };
     push_change(frame, work, changes, next, call)?;
     Ok(())
+}
+
+// The use for the occurrence at the path, by the case that guards it.
+fn guarded_call(
+    frame: &Frame<'_, '_>,
+    changes: &Changes,
+    whole: Term,
+    path: &[u16],
+    here: &Term,
+) -> Result<Option<Rc<Call>>, AllocError>
+    ensures { IfOk result (FindsCase frame.now changes.now whole path.now here.now
+        (guard_case frame.now.theory.now frame.now.gamma.now changes.now.last path.now)) }
+{
+    let guard = guard(frame, &changes.last, path)?;
+    occurrence_call(frame, changes, whole, path, here, guard)
 }
 
 // The use for an occurrence is next, and then the occurrences after it, in this term.
@@ -139,10 +209,34 @@ fn push_change<'a>(
     ensures values { work.new.values ≡ work.old.values }
     ensures left { work.new.left ≡ work.old.left }
 {
+    match push_next(frame, work, changes, here) {
+        Ok(()) => {
+            work.tasks.push(Task::EnterUse(call))?;
+            Ok(())
+        }
+        Err(fault) => {
+            drop(call);
+            Err(fault)
+        }
+    }
+}
+
+// The occurrences after this one are next, in this term, once what comes before is behind.
+fn push_next<'a>(
+    frame: &Frame<'a, '_>,
+    work: &mut Work<'a>,
+    changes: &Changes,
+    here: Term,
+) -> Result<(), AllocError>
+    ensures tasks { OnOk result (jobs_of frame.now work.new ≡ Put_behind Forth ∷
+        changes_job frame.now (record changes.now { done = changes.now.done + 1 }) here ∷
+        jobs_of frame.now work.old) }
+    ensures values { work.new.values ≡ work.old.values }
+    ensures left { work.new.left ≡ work.old.left }
+{
     let changes = changes.after()?;
     work.tasks.push(Task::NextChange { changes, here })?;
     work.tasks.push(Task::PutBehind(Way::Forth))?;
-    work.tasks.push(Task::EnterUse(call))?;
     Ok(())
 }
 
@@ -209,14 +303,40 @@ fn visible_call(
     let list = entry_at(frame, number, here, above)?;
     let entries = Front::of(frame.alloc, list)?;
     let below = frame.below(&changes.call, above)?;
-    let path = Rc::new(frame.alloc, below)?;
-    let layers = changes.layers.share()?;
-    let mut next = changes.call.share()?;
-    next.whole = whole;
-    next.path = path;
-    next.entries = entries;
-    next.along = Some(layers);
-    Ok(Some(Rc::new(frame.alloc, next)?))
+    visible_at(
+        frame.alloc,
+        &changes.call,
+        &changes.layers,
+        whole,
+        below,
+        entries,
+    )
+}
+
+// The same use in another whole term, at this path, with these entries, along layers.
+fn visible_at(
+    alloc: Global,
+    call: &Call,
+    layers: &Front<Layer>,
+    whole: Term,
+    path: Vec<u16>,
+    entries: Front<Held>,
+) -> Result<Option<Rc<Call>>, AllocError>
+    ensures { IfOk result (IsVisible call.now layers.now whole path.items entries) }
+{
+    let path = Rc::new(alloc, path)?;
+    let along = layers.share()?;
+    let by = call.by.clone()?;
+    let next = Call {
+        whole,
+        path,
+        entries,
+        along: Some(along),
+        goal: call.goal,
+        by,
+        assumptions: call.assumptions,
+    };
+    Ok(Some(Rc::new(alloc, next)?))
 }
 
 // The places on a path go before layers.

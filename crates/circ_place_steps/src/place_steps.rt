@@ -7,7 +7,9 @@ ghost use Rattle.circ_expansion.specs.Pieces.{no_piece};
 ghost use Rattle.circ_expansion.specs.Expand.{Layer as TheLayer, By_entry, arg_sort, layered, risen};
 ghost use Rattle.circ_expansion.specs.Expand.{start_at};
 ghost use Rattle.circ_entry.specs.Entries.{derivative_at};
-ghost use Rattle.circ_expansion.specs.Machine.{In_row, Empty_row};
+ghost use Rattle.circ_expansion.specs.Machine.{In_row, Empty_row, Occurrences};
+ghost use Rattle.circ_term.specs.Tree.{Tree};
+ghost use Rattle.circ_uses.specs.Paths.{plain_paths};
 ghost use Rattle.circ_uses.specs.Uses.{layer_by, layers_of, held_by, entries_of, BuildsLast};
 ghost use Rattle.circ_uses.specs.Valuations.{by_of};
 ghost use Rattle.circ_uses.specs.Fronts.{front};
@@ -16,7 +18,8 @@ ghost use Rattle.circ_tasks.specs.Tasks.{Steps, jobs_of, place_of, place_stepped
 ghost use Rattle.circ_place_steps.specs.Places.{TakesCertificate};
 ghost use Rattle.circ_expansion.specs.Followed.{goal_in};
 ghost use Rattle.circ_tasks.specs.Tasks.{call_of, target_of};
-ghost use Rattle.circ_place_steps.specs.Places.{HasEnds, begun_place, certificate_job};
+ghost use Rattle.circ_place_steps.specs.Places.{HasEnds, begun_place, begun_sides};
+ghost use Rattle.circ_place_steps.specs.Places.{certificate_job};
 ghost use Rattle.circ_tasks.specs.Tasks.{changes_job, links_job};
 ghost use Rattle.circ_place_steps.specs.Places.{occurrences_job};
 ghost use Rattle.circ_uses.specs.declared.uses.Layer.TheVariants as layer;
@@ -64,8 +67,15 @@ fn step_at<'a>(
         Ok(certificate) => certificate,
         Err(fault) => return Err(Halt::Past(fault)),
     };
-    let through = through(frame, layers, term, arg, &entry.last)?;
-    let ends = match ends(frame, call, &certificate.start, layers, through.as_slice()) {
+    let ends = match ends_at(
+        frame,
+        call,
+        layers,
+        term,
+        arg,
+        &entry.last,
+        &certificate.start,
+    ) {
         Ok(ends) => ends,
         Err(fault) => return Err(Halt::Past(fault)),
     };
@@ -147,6 +157,26 @@ fn through(
     let entry = Rc::new(frame.alloc, Layer::Entry { held })?;
     through.push(entry)?;
     Ok(through)
+}
+
+// Both sides of the goal within the layers, the place and the entry.
+fn ends_at(
+    frame: &Frame<'_, '_>,
+    call: &Call,
+    layers: &Front<Layer>,
+    term: &Term,
+    arg: u16,
+    entry: &Rc<Held>,
+    start: &Term,
+) -> Result<Ends, TermFault>
+    ensures { HasEnds frame.now call.now start.now
+        (layers_of frame.now.theory.now (front layers.now))
+        (By_entry (held_by frame.now.theory.now entry.now.value) ∷
+        layer_by frame.now.theory.now (layer.Place term.now arg) ∷
+        layers_of frame.now.theory.now (front layers.now)) result }
+{
+    let through = through(frame, layers, term, arg, entry)?;
+    ends(frame, call, start, layers, through.as_slice())
 }
 
 // Both sides of the goal within the layers, first the left one.
@@ -259,9 +289,26 @@ fn begin_place<'a>(
     work.values.add_empty()?;
     work.tasks.push(Task::PutBetween)?;
     push_changes(frame, work, call, place, layers, entries, certificate, ends)?;
+    push_sides(frame, work, call, entries, certificate, ends)
+}
+
+// The links of the certificate from both sides are next.
+fn push_sides<'a>(
+    frame: &Frame<'a, '_>,
+    work: &mut Work<'a>,
+    call: &Call,
+    entries: &Front<Held>,
+    certificate: &Certificate<'a>,
+    ends: &Ends,
+) -> Result<(), AllocError>
+    ensures tasks { OnOk result (jobs_of frame.now work.new ≡ begun_sides frame.now call.now
+        (entries_of frame.now.theory.now (front entries.now)) certificate.now ends.now
+        (jobs_of frame.now work.old)) }
+    ensures values { work.new.values ≡ work.old.values }
+    ensures left { work.new.left ≡ work.old.left }
+{
     push_side(frame, work, call, entries, certificate, &ends.right)?;
-    push_side(frame, work, call, entries, certificate, &ends.left)?;
-    Ok(())
+    push_side(frame, work, call, entries, certificate, &ends.left)
 }
 
 // The occurrences are next.
@@ -326,22 +373,52 @@ fn changes<'a>(
     ensures last { IfOk result (λ x. x.last ≡ certificate.now.last) }
 {
     let found = paths_of(frame.alloc, &certificate.last, 0, arg_sort(frame, place))?;
-    let paths = Rc::new(frame.alloc, found)?;
+    let middle = middle_call(frame, call, entries)?;
+    changes_of(frame, middle, layers, ends, &certificate.last, found)
+}
+
+// The occurrences at these paths of this term, each to be changed.
+fn changes_of(
+    frame: &Frame<'_, '_>,
+    call: Rc<Call>,
+    layers: &Front<Layer>,
+    ends: &Ends,
+    last: &Term,
+    paths: Vec<Vec<u16>>,
+) -> Result<Changes, AllocError>
+    ensures job { IfOk result (λ x. (here : Tree) → changes_job frame.now x here ≡ Occurrences
+        (call_of frame.now call.value) (layers_of frame.now.theory.now (front layers.now))
+        ends.now.new last.now (plain_paths paths.items) here) }
+    ensures last { IfOk result (λ x. x.last ≡ last.now) }
+{
+    let paths = Rc::new(frame.alloc, paths)?;
     let layers = layers.share()?;
-    let to = ends.new.share()?;
-    let last = certificate.last.share()?;
-    let held = entries.share()?;
-    let mut middle = call.share()?;
-    middle.entries = held;
-    let call = Rc::new(frame.alloc, middle)?;
+    let new = ends.new.share()?;
+    let last = last.share()?;
     Ok(Changes {
         call,
         layers,
-        new: to,
+        new,
         last,
         paths,
         done: 0,
     })
+}
+
+// The same use with other entries.
+fn middle_call(
+    frame: &Frame<'_, '_>,
+    call: &Call,
+    entries: &Front<Held>,
+) -> Result<Rc<Call>, AllocError>
+    ensures { IfOk result (λ d. call_of frame.now d.value ≡ record (call_of frame.now call.now) {
+      entries = entries_of frame.now.theory.now (front entries.now);
+    }) }
+{
+    let held = entries.share()?;
+    let mut middle = call.share()?;
+    middle.entries = held;
+    Ok(Rc::new(frame.alloc, middle)?)
 }
 
 // The links of the certificate under a substitution.
@@ -355,20 +432,35 @@ fn side_of<'a>(
     ensures { IfOk result (λ l. links_job frame.now l ≡ certificate_job frame.now call.now
         (entries_of frame.now.theory.now (front entries.now)) certificate.now by.now.value) }
 {
+    let call = side_call(frame, call, entries, by)?;
     let basis = certificate.basis.clone()?;
     let term = certificate.start.share()?;
-    let held = entries.share()?;
-    let given = by.clone()?;
-    let mut side = call.share()?;
-    side.entries = held;
-    side.by = given;
-    let call = Rc::new(frame.alloc, side)?;
     Ok(Links {
         call,
         basis,
         links: certificate.links,
         term,
     })
+}
+
+// The same use with other entries and another substitution.
+fn side_call(
+    frame: &Frame<'_, '_>,
+    call: &Call,
+    entries: &Front<Held>,
+    by: &Rc<By>,
+) -> Result<Rc<Call>, AllocError>
+    ensures { IfOk result (λ d. call_of frame.now d.value ≡ record (call_of frame.now call.now) {
+      entries = entries_of frame.now.theory.now (front entries.now);
+      by = by_of by.now.value;
+    }) }
+{
+    let held = entries.share()?;
+    let given = by.clone()?;
+    let mut side = call.share()?;
+    side.entries = held;
+    side.by = given;
+    Ok(Rc::new(frame.alloc, side)?)
 }
 
 // The sort of the argument at a place.

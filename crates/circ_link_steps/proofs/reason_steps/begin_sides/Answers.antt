@@ -1,24 +1,25 @@
-use Rattle.std.proofs.Common.{◌∷◌, ap, ◌∙◌}
+use Rattle.std.proofs.Common.{◌≡◌, ◌∷◌, List, ap, ◌∙◌, subst}
+use Rattle.std.specs.Result.{OnOk}
+use Rattle.circ_proof.specs.declared.links.Link.{Link}
 use Rattle.circ_expansion.specs.Machine.{Links as Links_job, Empty_row}
+use Rattle.circ_written.specs.Values.{values_of}
 use Rattle.circ_tasks.specs.Tasks.{call_of, basis_of, links_at, jobs_of}
-use Rattle.circ_tasks.specs.declared.tasks.Task.TheVariants as task
-use Rattle.circ_tasks.proofs.Stepping.{jobs_pushed}
+use Rattle.circ_link_steps.proofs.Before.{done_so, done_before}
 use Rattle.circ_link_steps.proofs.reason_steps.begin_sides.Goals as goal
 
-pub returns-clause-tasks : goal.returns-clause-tasks
-returns-clause-tasks c =
+pub returns-in-Ok-clause-tasks : goal.returns-in-Ok-clause-tasks
+returns-in-Ok-clause-tasks c =
     let fr = c.args.frame.now in
-    let w = c.args.work.now in
-    let d = c.args.call.value in
-    let b = c.args.basis.value in
+    let d = call_of fr c.args.call.value in
+    let b = basis_of fr c.args.basis.value in
     let chain = c.args.chain.now in
-    let first = jobs_pushed fr w.tasks.items c.push.new.self.items
-    (task.Links (record { call = c.in_ok-clone.field-0; basis = c.in_ok-clone-2.field-0; links = c.as_slice.result; term = c.args.right })) c.in_ok-push.ensures.items in
-    let second = jobs_pushed fr c.push.new.self.items c.push-2.new.self.items task.EmptyRow c.in_ok-push-2.ensures.items in
-    let third = jobs_pushed fr c.push-2.new.self.items c.push-3.new.self.items
-    (task.Links (record { call = c.args.call; basis = c.args.basis; links = c.as_slice-2.result; term = c.args.left })) c.in_ok-push-3.ensures.items in
-    third
-    ∙ ap (λ ls. Links_job (call_of fr d) (basis_of fr b) (links_at fr ls) c.args.left ∷ jobs_of fr (record w { tasks = c.push-2.new.self })) c.as_slice-2.ensures.value
-    ∙ ap (λ js. Links_job (call_of fr d) (basis_of fr b) (links_at fr chain.left.items) c.args.left ∷ js)
-    (second ∙ ap (λ js. Empty_row ∷ js)
-    (first ∙ (λ i. Links_job (call_of fr (c.in_ok-clone.ensures.cases i)) (basis_of fr (c.in_ok-clone-2.ensures.cases i)) (links_at fr (c.as_slice.ensures.value i)) c.args.right ∷ jobs_of fr w)))
+    let r = c.push_task.result in
+    let new = jobs_of fr c.push_task.new.work in
+    let mid = jobs_of fr c.begin_right.new.work in
+    let P : List (Link _) → Type 0 = λ ls. OnOk r (new ≡ Links_job d b (links_at fr ls) c.args.left ∷ mid) in
+    done_before r (λ js. Links_job d b (links_at fr chain.left.items) c.args.left ∷ js) new mid
+    (Empty_row ∷ Links_job d b (links_at fr chain.right.items) c.args.right ∷ jobs_of fr c.args.work.now) c.in-Ok.ensures.tasks
+    (subst P c.as_slice.ensures.value (c.push_task.ensures.tasks fr))
+
+pub returns-in-Ok-clause-values : goal.returns-in-Ok-clause-values
+returns-in-Ok-clause-values c = done_so c.push_task.result (ap values_of c.push_task.ensures.values ∙ c.in-Ok.ensures.values)

@@ -1,15 +1,12 @@
-use Rattle.std.proofs.Common.{◌∷◌, ap, ◌∙◌}
-use Rattle.circ_expansion.specs.Machine.{Begin_split, End_split}
-use Rattle.circ_tasks.specs.Tasks.{reasons_job, split_term}
-use Rattle.circ_tasks.specs.declared.tasks.Task.TheVariants as task
-use Rattle.circ_tasks.proofs.Stepping.{jobs_pushed}
+use Rattle.std.proofs.Common.{◌∷◌}
+use Rattle.circ_expansion.specs.Machine.{Begin_split, End_split, Put_between}
+use Rattle.circ_tasks.specs.Tasks.{jobs_of, reasons_job, split_term}
+use Rattle.circ_link_steps.proofs.Before.{done_before}
 use Rattle.circ_link_steps.proofs.reason_steps.push_split.Goals as goal
 
-pub returns-clause-tasks : goal.returns-clause-tasks
-returns-clause-tasks c =
+pub returns-in-Ok-clause-tasks : goal.returns-in-Ok-clause-tasks
+returns-in-Ok-clause-tasks c =
     let fr = c.args.frame.now in
-    let w = c.args.work.now in
     let r = c.args.split in
-    let first = jobs_pushed fr w.tasks.items c.push.new.self.items task.PutBetween c.in_ok-push.ensures.items in
-    let second = jobs_pushed fr c.push.new.self.items c.push-2.new.self.items (task.Split r) c.in_ok-push-2.ensures.items in
-    second ∙ ap (λ js. Begin_split (split_term r) ∷ reasons_job fr r ∷ End_split (split_term r) ∷ js) first
+    done_before c.push_task-in-Ok.result (λ js. Begin_split (split_term r) ∷ reasons_job fr r ∷ End_split (split_term r) ∷ js) (jobs_of fr c.push_task-in-Ok.new.work)
+    (jobs_of fr c.push_task.new.work) (Put_between ∷ jobs_of fr c.args.work.now) (c.in-Ok.ensures.tasks fr) (c.push_task-in-Ok.ensures.tasks fr)

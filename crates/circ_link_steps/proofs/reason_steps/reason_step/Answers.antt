@@ -7,23 +7,12 @@ use Rattle.circ_proof.proofs.Rows.{split_plain}
 use Rattle.circ_expansion.specs.Expand.{Spending}
 use Rattle.circ_expansion.specs.Machine.{Pending, reason_step, all_uses}
 use Rattle.circ_written.specs.Values.{values_of}
-use Rattle.circ_theory.specs.declared.way.Way.TheVariants.{Back}
-use Rattle.circ_tasks.specs.Tasks.{begun_sides, call_of, basis_of, background_in, jobs_of, whys_at, reason_job, stepped}
-use Rattle.circ_tasks.specs.declared.tasks.Task.TheVariants as task
-use Rattle.circ_link_steps.proofs.Parting.{same_begun}
-use Rattle.circ_tasks.proofs.Stepping.{jobs_pushed, steps_same}
+use Rattle.circ_tasks.specs.Tasks.{call_of, basis_of, background_in, jobs_of, whys_at, reason_job, stepped}
+use Rattle.circ_tasks.proofs.Stepping.{steps_same}
 use Rattle.circ_link_steps.proofs.reason_steps.reason_step.Goals as goal
 
-pub returns-in_ok-begin_sides-in-Same : goal.returns-in_ok-begin_sides-in-Same
-returns-in_ok-begin_sides-in-Same c =
-    let fr = c.args.frame.now in
-    let r = c.args.reason in
-    let w = c.args.work.now in
-    let x = c.in-Same.chain in
-    let first = jobs_pushed fr w.tasks.items c.push.new.self.items (task.PutBehind Back) c.in_ok-push-in-Same.ensures.items in
-    same_begun fr r w c.begin_sides.new.work x c.in-Same.is
-    (c.in_ok-begin_sides-in-Same.ensures.tasks ∙ ap (begun_sides fr r.call.value r.basis.value x r.left r.right) first)
-    c.in_ok-begin_sides-in-Same.ensures.values c.begin_sides.ensures.left
+pub returns-in-Same : goal.returns-in-Same
+returns-in-Same c = c.same_step.ensures c.in-Same.is
 
 pub returns-in-Split : goal.returns-in-Split
 returns-in-Split c =

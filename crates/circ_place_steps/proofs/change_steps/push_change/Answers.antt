@@ -1,17 +1,12 @@
 use Rattle.std.proofs.Common.{◌∷◌, ap, ◌∙◌}
-use Rattle.circ_theory.specs.declared.way.Way.TheVariants.{Forth}
-use Rattle.circ_expansion.specs.Machine.{Enter_use, Put_behind}
-use Rattle.circ_tasks.specs.Tasks.{call_of, jobs_of}
+use Rattle.circ_expansion.specs.Machine.{Enter_use}
+use Rattle.circ_tasks.specs.Tasks.{call_of}
 use Rattle.circ_tasks.specs.declared.tasks.Task.TheVariants as task
 use Rattle.circ_tasks.proofs.Stepping.{jobs_pushed}
 use Rattle.circ_place_steps.proofs.change_steps.push_change.Goals as goal
 
-pub returns-clause-tasks : goal.returns-clause-tasks
-returns-clause-tasks c =
+pub returns-in_ok-push-in-Ok-clause-tasks : goal.returns-in_ok-push-in-Ok-clause-tasks
+returns-in_ok-push-in-Ok-clause-tasks c =
     let fr = c.args.frame.now in
-    let w = c.args.work.now in
-    let first = jobs_pushed fr w.tasks.items c.push.new.self.items (task.NextChange c.in_ok-changes.changes c.args.here) c.in_ok-push.ensures.items in
-    let second = jobs_pushed fr c.push.new.self.items c.push-2.new.self.items (task.PutBehind Forth) c.in_ok-push-2.ensures.items in
-    let third = jobs_pushed fr c.push-2.new.self.items c.push-3.new.self.items (task.EnterUse c.args.call) c.in_ok-push-3.ensures.items in
-    third ∙ ap (λ js. Enter_use (call_of fr c.args.call.value) ∷ js) (second ∙ ap (λ js. Put_behind Forth ∷ js)
-    (first ∙ ap (λ j. j ∷ jobs_of fr w) (c.in_ok-changes.ensures fr c.args.here)))
+    jobs_pushed fr c.push_next.new.work.tasks.items c.push.new.self.items (task.EnterUse c.args.call) c.in_ok-push-in-Ok.ensures.items
+    ∙ ap (λ js. Enter_use (call_of fr c.args.call.value) ∷ js) c.in-Ok.ensures.tasks

@@ -1,4 +1,4 @@
-use Rattle.std.proofs.Common.{◌≡◌, ◌∷◌, List, Option, Result, Ok, Err, refl, ap, sym, ◌∙◌, subst}
+use Rattle.std.proofs.Common.{◌≡◌, ◌∷◌, Option, Result, Ok, Err, refl, ap, sym, ◌∙◌, subst}
 use Rattle.circ_special.specs.declared.place.Place.{Place}
 use Rattle.circ_term.specs.Limits.{Names}
 use Rattle.circ_term.specs.declared.fault.TermFault.{TermFault}
@@ -6,12 +6,11 @@ use Rattle.circ_uses.specs.Fronts.{front, shared_in, IsCut}
 use Rattle.circ_uses.specs.Uses.{first_of, held_by, entries_of, layers_of}
 use Rattle.circ_tasks.specs.Tasks.{call_of, certificate_terms, jobs_of}
 use Rattle.circ_place_steps.specs.Places.{HasEnds, IsCertificate, begun_place}
-use Rattle.circ_expansion.specs.Expand.{Layer}
 use Rattle.circ_tasks.specs.declared.calls.Call.{Call}
 use Rattle.circ_uses.specs.declared.fronts.Cut.{Cut}
 use Rattle.circ_place_steps.specs.declared.places.Ends.{Ends}
 use Rattle.circ_uses.specs.declared.uses.Held.{Held}
-use Rattle.circ_place_steps.proofs.AtPlaces.{place_end, place_past, place_ends_past, place_on}
+use Rattle.circ_place_steps.proofs.AtPlaces.{place_end, place_past, place_ends_past, place_on, through_layers}
 use Rattle.circ_uses.proofs.Fronting.{entries_cut}
 use Rattle.circ_place_steps.proofs.place_steps.step_at.Goals as goal
 
@@ -39,8 +38,8 @@ returns-in-Err c =
     place_past fr d c.args.term.now c.args.arg (layers_of th (front c.args.layers.now)) c.args.work.now e cs h refl c.in-Err.fault
     (subst Q c.place_at-place.ensures (subst P c.deref-2.ensures c.in-Err.ensures))
 
-pub returns-in-Err-ends : goal.returns-in-Err-ends
-returns-in-Err-ends c =
+pub returns-in-Err-ends_at : goal.returns-in-Err-ends_at
+returns-in-Err-ends_at c =
     let fr = c.args.frame.now in
     let th = fr.theory.now in
     let x = c.in-Some.entry in
@@ -55,12 +54,10 @@ returns-in-Err-ends c =
     let A : Held → Type 0 = λ q. IsCertificate fr c.place_at-place.result q.number c.in-Ok.certificate in
     let B : Place → Type 0 = λ g. IsCertificate fr g x.last.value.number c.in-Ok.certificate in
     let ce = subst B c.place_at-place.ensures (subst A c.deref-2.ensures c.in-Ok.ensures) in
-    let same = ap (layers_of th) c.as_slice.ensures.value ∙ c.in_ok-through.ensures in
-    let r : Result Ends TermFault = Err c.in-Err-ends.fault in
-    let D : Call → Type 0 = λ z. HasEnds fr z c.in-Ok.certificate.start xs (layers_of th c.as_slice.result.now) r in
-    let P : List Layer → Type 0 = λ ys. HasEnds fr d c.in-Ok.certificate.start xs ys r in
-    place_ends_past fr d c.args.term.now c.args.arg xs c.args.work.now e cs h refl ce.within c.in-Err-ends.fault
-    (subst P same (subst D c.deref-3.ensures (c.in-Err-ends.ensures _ _ same)))
+    let r : Result Ends TermFault = Err c.in-Err-ends_at.fault in
+    let D : Call → Type 0 = λ z. HasEnds fr z c.in-Ok.certificate.start xs (through_layers c.args.term.now c.args.arg xs e) r in
+    place_ends_past fr d c.args.term.now c.args.arg xs c.args.work.now e cs h refl ce.within c.in-Err-ends_at.fault
+    (subst D c.deref-3.ensures c.in-Err-ends_at.ensures)
 
 pub returns : goal.returns
 returns c =
@@ -77,15 +74,13 @@ returns c =
     entries_cut th (front d.entries) x.last (front x.rest)
     (ap (λ (z : Call). shared_in (front z.entries)) (sym c.deref.ensures) ∙ subst C c.in-Some.is c.in_ok-entry.ensures) in
     let ce0 = c.in-Ok.certificate in
-    let en0 = c.in-Ok-ends.ends in
+    let en0 = c.in-Ok-ends_at.ends in
     let A : Held → Type 0 = λ q. IsCertificate fr c.place_at-place.result q.number ce0 in
     let B : Place → Type 0 = λ g. IsCertificate fr g x.last.value.number ce0 in
     let ce = subst B c.place_at-place.ensures (subst A c.deref-2.ensures c.in-Ok.ensures) in
-    let same = ap (layers_of th) c.as_slice.ensures.value ∙ c.in_ok-through.ensures in
     let r : Result Ends TermFault = Ok en0 in
-    let D : Call → Type 0 = λ z. HasEnds fr z ce0.start xs (layers_of th c.as_slice.result.now) r in
-    let P : List Layer → Type 0 = λ ys. HasEnds fr d ce0.start xs ys r in
-    let en = subst P same (subst D c.deref-3.ensures (c.in-Ok-ends.ensures _ _ same)) in
+    let D : Call → Type 0 = λ z. HasEnds fr z ce0.start xs (through_layers t c.args.arg xs e) r in
+    let en = subst D c.deref-3.ensures c.in-Ok-ends_at.ensures in
     let js = c.in_ok-begin_place.ensures.tasks ∙ ap (λ (z : Call). begun_place fr z c.place_at-place.result xs cs ce0 en0 (jobs_of fr c.args.work.now)) c.deref-4.ensures
     ∙ ap (λ (g : Place). begun_place fr d g xs cs ce0 en0 (jobs_of fr c.args.work.now)) c.place_at-place.ensures in
     place_on fr d t c.args.arg xs c.args.work.now c.begin_place.new.work e cs ce0 en0 h refl ce en js
