@@ -1,8 +1,10 @@
 -- Terms within layers, from the innermost.
-use Rattle.std.proofs.Common.{◌≡◌, ◌∷◌, ◌++◌, [], ℕ, unwrap_or, List, map, reverse, Option, Some, None, refl, ap, sym, ◌∙◌, subst}
+use Rattle.std.proofs.Common.{◌≡◌, ◌∷◌, ◌++◌, [], ℕ, unwrap_or, List, map, reverse, Option, Some, None, Result, Ok, Err, refl, ap, sym, ◌∙◌, subst}
 use Rattle.std.proofs.lemmas.List.{reverse-append, map-append}
 use Rattle.std.specs.declared.rc.Rc.{Rc}
 use Rattle.std.specs.List.{slice_get}
+use Rattle.std.specs.Result.{OnOk}
+use Rattle.std.specs.declared.alloc.AllocError.{AllocError}
 use Rattle.circ_term.specs.Tree.{Tree, Var, App, trees_of}
 use Rattle.circ_term.proofs.Trees.{list_of-trees_of}
 use Rattle.circ_term.specs.Limits.{Limit, first_limit, or_else, Names, IsWithinLimits}
@@ -83,3 +85,8 @@ first_both xs ys a b = none_first xs ys a ∙ b
 
 pub names_both : (xs ys : List Tree) (e : TermFault) → first_of xs ≡ None → Names e (first_of ys) → Names e (first_of (xs ++ ys))
 names_both xs ys e a h = let P : Option Limit → Type 0 = λ o. Names e o in subst P (sym (none_first xs ys a)) h
+
+-- what is put before others is another list
+pub placed_on : (r : Result (Unit {0}) AllocError) (xs ys zs : List Layer) → ys ≡ zs → OnOk r (xs ≡ ys) → OnOk r (xs ≡ zs)
+placed_on (Ok u) xs ys zs e h = h ∙ e
+placed_on (Err k) xs ys zs e h = tt

@@ -1,5 +1,5 @@
 //! The substitution of a use, and instances by it.
-ghost use Rattle.std.specs.Prelude.{◌≡◌, ℕ, Some, None, if◌then◌else◌, IfOk};
+ghost use Rattle.std.specs.Prelude.{◌≡◌, ℕ, [], Some, None, if◌then◌else◌, IfOk, OnOk};
 ghost use Rattle.circ_term.specs.Tree.{trees_of};
 ghost use Rattle.circ_term.specs.Limits.{Builds};
 ghost use Rattle.circ_term.specs.Substitution.{instance, instances};
@@ -7,7 +7,9 @@ ghost use Rattle.circ_term.specs.Subst.{BuildsAll};
 ghost use Rattle.circ_match.specs.Matcher.{has_variable, have_variable};
 ghost use Rattle.circ_theory.specs.Observing.{derivative_with};
 ghost use Rattle.circ_expansion.specs.Expand.{extended};
+ghost use Rattle.circ_term.specs.Substitution.{Substitution};
 ghost use Rattle.circ_uses.specs.Valuations.{by_of, plugged_by, valued_by, over_number};
+ghost use Rattle.circ_uses.specs.Valuations.{with_overs};
 
 use crate::valuation::Valuation;
 use circ_term::{Kind, Term, TermFault};
@@ -127,6 +129,20 @@ impl By {
         }
     }
 
+    // The same, as a term within the limits.
+    fn known_value(
+        &self,
+        plugged: &Option<Plugged>,
+        number: u32,
+        sort: u32,
+    ) -> Result<Term, TermFault>
+        ensures { Builds result (plugged_by plugged.now (by_of self.now) number sort) }
+    {
+        let value = self.value_with(plugged, number, sort)?;
+        value.known();
+        Ok(value)
+    }
+
     /// What a variable becomes.
     pub fn value(&self, number: u32, sort: u32) -> Result<Term, AllocError>
         ensures { IfOk result (λ t. t ≡ by_of self.now number sort) }
@@ -148,16 +164,19 @@ impl By {
             (derivative_with 0 over.body) over.first (by_of self.now)
             (valued_by over.params.value) n s) }
     {
+        let mut by = self.share(alloc)?;
+        by.overs.push(over)?;
+        Ok(by)
+    }
+
+    // The same once more.
+    fn share(&self, alloc: Global) -> Result<By, AllocError>
+        ensures { IfOk result (λ b. by_of b ≡ by_of self.now) }
+    {
+        let base = self.base.clone()?;
         let mut overs = Vec::with_capacity(alloc, self.overs.len() + 1)?;
-        let olds = self.overs.as_slice();
-        for old in olds {
-            overs.push(old.share()?)?;
-        }
-        overs.push(over)?;
-        Ok(By {
-            base: self.base.clone()?,
-            overs,
-        })
+        share_overs(self.overs.as_slice(), &mut overs)?;
+        Ok(By { base, overs })
     }
 
     /// The instance of a term. A subterm without a variable is shared.
@@ -171,7 +190,11 @@ impl By {
         ensures { BuildsAll (λ v. v.items) result
             (instances (by_of self.now) (trees_of terms.now)) }
     {
-        self.apply_all_with(alloc, &None, terms)
+        let mut made = Vec::with_capacity(alloc, terms.len())?;
+        match self.apply_each(alloc, &None, terms, &mut made) {
+            Err(fault) => Err(fault),
+            Ok(()) => Ok(made),
+        }
     }
 
     /// The same with a term for a hole.
@@ -188,43 +211,55 @@ impl By {
             return shared(term);
         }
         match term.kind() {
-            Kind::Variable { number, sort } => {
-                let value = self.value_with(plugged, number, sort)?;
-                value.known();
-                Ok(value)
-            }
+            Kind::Variable { number, sort } => self.known_value(plugged, number, sort),
             Kind::Application { op, sort, args } => {
-                match self.apply_all_with(alloc, plugged, args) {
+                let mut made = Vec::with_capacity(alloc, args.len())?;
+                match self.apply_each(alloc, plugged, args, &mut made) {
                     Err(fault) => Err(fault),
-                    Ok(args) => Term::app(alloc, op, sort, args),
+                    Ok(()) => Term::app(alloc, op, sort, made),
                 }
             }
         }
     }
 
+    // The instances of terms, which are put into a list that is empty.
     #[cycle(apply)]
-    fn apply_all_with(
+    fn apply_each(
         &self,
         alloc: Global,
         plugged: &Option<Plugged>,
         terms: &[Term],
-    ) -> Result<Vec<Term>, TermFault>
-        ensures { BuildsAll (λ v. v.items) result
+        made: &mut Vec<Term>,
+    ) -> Result<(), TermFault>
+        requires { made.old.items ≡ [] }
+        ensures { BuildsAll (λ _. made.new.items) result
             (instances (plugged_by plugged.now (by_of self.now)) (trees_of terms.now)) }
     {
-        let mut made = Vec::with_capacity(alloc, terms.len())?;
         for term in terms {
             match self.apply_with(alloc, plugged, term) {
                 Err(fault) => return Err(fault),
                 Ok(term) => made.push(term)?,
             }
         }
-        Ok(made)
+        Ok(())
     }
 }
 
+// All of these once more, put into a list that is empty.
+fn share_overs(olds: &[Over], overs: &mut Vec<Over>) -> Result<(), AllocError>
+    requires { overs.old.items ≡ [] }
+    ensures { (σ : Substitution) → OnOk result (with_overs σ overs.new.items ≡
+        with_overs σ olds.now) }
+{
+    for old in olds {
+        let over = old.share()?;
+        overs.push(over)?;
+    }
+    Ok(())
+}
+
 // The same term once more.
-fn shared(term: &Term) -> Result<Term, TermFault>
+pub(crate) fn shared(term: &Term) -> Result<Term, TermFault>
     ensures { Builds result term.now }
 {
     Ok(term.share()?)

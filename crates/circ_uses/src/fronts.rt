@@ -1,5 +1,5 @@
 //! Lists of which several uses share the first items.
-ghost use Rattle.std.specs.Prelude.{◌≡◌, ◌∷◌, [], ◌++◌, take, IfOk};
+ghost use Rattle.std.specs.Prelude.{◌≡◌, ◌∷◌, [], ◌++◌, take, IfOk, OnOk};
 ghost use Rattle.circ_uses.specs.Fronts.{front, shared_in, IsCut};
 
 use std::alloc::{AllocError, Global};
@@ -69,9 +69,7 @@ impl<T: Drop> Front<T> {
     {
         let items = self.as_slice();
         let mut copy = Vec::with_capacity(alloc, items.len())?;
-        for item in items {
-            copy.push(item.clone()?)?;
-        }
+        share_items(items, &mut copy)?;
         Ok(copy)
     }
 
@@ -84,6 +82,18 @@ impl<T: Drop> Front<T> {
         items.push(item)?;
         Front::of(alloc, items)
     }
+}
+
+// The same items once more, put into a list that is empty.
+fn share_items<T: Drop>(items: &[Rc<T>], copy: &mut Vec<Rc<T>>) -> Result<(), AllocError>
+    requires { copy.old.items ≡ [] }
+    ensures { OnOk result (shared_in copy.new.items ≡ shared_in items.now) }
+{
+    for item in items {
+        let shared = item.clone()?;
+        copy.push(shared)?;
+    }
+    Ok(())
 }
 
 /// The first so many items.

@@ -12,10 +12,11 @@ ghost use Rattle.circ_expansion.specs.Expand.{places_on};
 ghost use Rattle.circ_theory.specs.Theory.{Theory};
 ghost use Rattle.std.specs.Option.{option_copied};
 ghost use Rattle.circ_theory.specs.Experiment.{derived};
-ghost use Rattle.circ_uses.specs.Valuations.{by_of, valued_by};
+ghost use Rattle.circ_uses.specs.Valuations.{by_of, plugged_by, valued_by};
 ghost use Rattle.circ_uses.specs.Uses.{entries_of, layers_of, layer_by, BuildsLast};
+ghost use Rattle.circ_uses.specs.declared.uses.Layer.TheVariants as layer;
 
-use crate::by::{By, Plugged};
+use crate::by::{By, Plugged, shared};
 use crate::fitting::hole_path;
 use crate::valuation::Valuation;
 use circ_term::{Kind, Term, TermFault, share_all};
@@ -50,10 +51,24 @@ pub fn base(
 {
     let mut whole = Vec::with_capacity(alloc, path.len())?;
     whole.extend_from_slice(path)?;
-    for entry in entries {
-        add_hole(alloc, theory, entry.number, &mut whole)?;
-    }
+    add_holes(alloc, theory, entries, &mut whole)?;
     Ok(whole)
+}
+
+// The paths of the holes of entries are put behind another.
+fn add_holes(
+    alloc: Global,
+    theory: &Theory,
+    entries: &[Rc<Held>],
+    path: &mut Vec<u16>,
+) -> Result<(), AllocError>
+    ensures { OnOk result (path.new.items ≡
+        path.old.items ++ holes (entries_of theory.now entries.now)) }
+{
+    for entry in entries {
+        add_hole(alloc, theory, entry.number, path)?;
+    }
+    Ok(())
 }
 
 // The path of a derivative's hole is put behind another.
@@ -83,10 +98,7 @@ pub fn put(alloc: Global, whole: &Term, path: &[u16], new: &Term) -> Result<Term
     match whole.replace(alloc, path, new) {
         Err(fault) => Err(fault),
         Ok(Some(made)) => Ok(made),
-        Ok(None) => {
-            whole.known();
-            Ok(whole.share()?)
-        }
+        Ok(None) => shared(whole),
     }
 }
 
@@ -136,15 +148,7 @@ pub fn add_places(
         Kind::Variable { .. } => Ok(()),
         Kind::Application { args, .. } => {
             add_below(alloc, arg_at(args, *arg), rest, layers)?;
-            let place = kept(
-                alloc,
-                Layer::Place {
-                    term: term.share()?,
-                    arg: *arg,
-                },
-            )?;
-            layers.push(place)?;
-            Ok(())
+            push_place(alloc, term, *arg, layers)
         }
     }
 }
@@ -170,6 +174,22 @@ fn arg_at(args: &[Term], arg: u16) -> Option<&Term>
     ensures { option_copied result ≡ slice_get args.now arg }
 {
     args.get(arg as usize)
+}
+
+// The place of an argument of a term is put before layers.
+fn push_place(
+    alloc: Global,
+    term: &Term,
+    arg: u16,
+    layers: &mut Vec<Rc<Layer>>,
+) -> Result<(), AllocError>
+    ensures { (th : Theory) → OnOk result (layers_of th layers.new.items ≡
+        layer_by th (layer.Place term.now arg) ∷ layers_of th layers.old.items) }
+{
+    let term = term.share()?;
+    let place = kept(alloc, Layer::Place { term, arg })?;
+    layers.push(place)?;
+    Ok(())
 }
 
 fn kept(alloc: Global, layer: Layer) -> Result<Rc<Layer>, AllocError>
@@ -247,20 +267,29 @@ fn derived(alloc: Global, theory: &Theory, held: &Held, term: &Term) -> Result<T
         (valued_by held.now.params.value)) }
 {
     let Some(body) = theory.derivative(held.number) else {
-        term.known();
-        return Ok(term.share()?);
+        return shared(term);
     };
     let Some(hole) = theory.hole_sort(held.number) else {
-        term.known();
-        return Ok(term.share()?);
+        return shared(term);
     };
+    let term = term.share()?;
+    let plugged = Some(Plugged { hole, term });
+    filled(alloc, held, &plugged, body)
+}
+
+// The body of a derivative with terms for its hole and its parameters.
+fn filled(
+    alloc: Global,
+    held: &Held,
+    plugged: &Option<Plugged>,
+    body: &Term,
+) -> Result<Term, TermFault>
+    ensures { Builds result
+        (instance (plugged_by plugged.now (valued_by held.now.params.value)) body.now) }
+{
     let by = By {
         base: held.params.clone()?,
         overs: Vec::new(alloc),
     };
-    let plugged = Some(Plugged {
-        hole,
-        term: term.share()?,
-    });
-    by.apply_with(alloc, &plugged, body)
+    by.apply_with(alloc, plugged, body)
 }
