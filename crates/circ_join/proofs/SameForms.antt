@@ -1,20 +1,22 @@
 -- Two terms and their normal forms: the same, or not, or hindered.
-use Rattle.std.proofs.Common.{◌≡◌, ℕ, Bool, if◌then◌else◌, true, false, List, Option, Some, None, Result, Ok, Err, ap, ◌∙◌}
+use Rattle.std.proofs.Common.{◌≡◌, ℕ, Bool, if◌then◌else◌, true, false, List, Option, Some, None, Result, Ok, Err, ap, sym, ◌∙◌}
 use Rattle.circ_term.specs.Tree.{Tree}
 use Rattle.circ_term.specs.Limits.{first_limit, or_else}
 use Rattle.circ_term.specs.Order.{is_same}
 use Rattle.circ_term.specs.Substitution.{Substitution, instance}
 use Rattle.circ_theory.specs.Theory.{Pair}
 use Rattle.circ_rewrite.specs.Norm.{Normal_form}
-use Rattle.circ_rewrite.specs.Plain.{Faults}
+use Rattle.circ_rewrite.specs.Plain.{Faults, plain_traces}
 use Rattle.circ_rewrite.specs.Replacement.{Passes, more_passes, Traced, trace_row}
 use Rattle.circ_rewrite.specs.declared.fault.RewriteFault.{RewriteFault}
+use Rattle.circ_rewrite.specs.declared.parts.Normal.{Normal}
 use Rattle.circ_rewrite.specs.declared.parts.Pass.{Pass}
+use Rattle.circ_rewrite.specs.declared.parts.Trace.{Trace}
 use Rattle.circ_conditional_norm.specs.Tries.{Normaliser, same_forms, condition_holds}
 use Rattle.circ_conditional_norm.specs.Work.{Work, Made, map_found, unless_limit, normal_then}
 use Rattle.circ_tries.specs.Trying.{Hinders, TestsCondition}
 use Rattle.circ_tries.proofs.Faulting.{hinders_normal, hinders_same}
-use Rattle.circ_join.specs.Trying.{TestsForms}
+use Rattle.circ_join.specs.Trying.{TestsForms, IsPassOfForms}
 
 module _ (f : Normaliser) (a b : Tree) (k : ℕ) (rest : ℕ → Work (Option Passes)) where
   abbrev forms : Work (Option Passes)
@@ -58,3 +60,12 @@ module _ (f : Normaliser) (σ : Substitution) (p : Pair) (k : ℕ) (v : first_li
   forms_test l (Ok None) h = λ rest. within_both rest ∙ h rest
   forms_test l (Ok (Some pass)) h = λ rest. within_both rest ∙ h rest
   forms_test l (Err e) h = λ rest. hinders_same e l (condition_holds f σ p k rest) (same_forms f (instance σ p.left) (instance σ p.right) k rest) (within_both rest) (h rest)
+
+-- what comes of two normal forms
+pub forms_pass : (f : Normaliser) (a b : Tree) (k l m : ℕ) (x y : Normal) → f k a ≡ Normal_form x.term (plain_traces x.traces.items) l → f l b ≡ Normal_form y.term (plain_traces y.traces.items) m
+    → (o : Option Pass) → IsPassOfForms x y o → TestsForms f a b k m (Ok o)
+forms_pass f a b k l m x y e also None h = λ rest. other_forms f a b k rest x.term (plain_traces x.traces.items) l e y.term (plain_traces y.traces.items) m also h
+forms_pass f a b k l m x y e also (Some pass) h = λ rest.
+    one_form f a b k rest x.term (plain_traces x.traces.items) l e y.term (plain_traces y.traces.items) m also h.0
+    ∙ ap (λ (ts : List Trace). map_found (more_passes (trace_row (plain_traces ts)) (trace_row (plain_traces y.traces.items))) (rest m)) (sym h.1)
+    ∙ ap (λ (us : List Trace). map_found (more_passes (trace_row (plain_traces pass.left.items)) (trace_row (plain_traces us))) (rest m)) (sym h.2)

@@ -45,28 +45,38 @@ put_limited w u (suc k) h =
 pub put_spent : (w : Swept) (u : HypothesisUse) (k : ℕ) → k ≡ 0 → put_swept w u k ≡ Out
 put_spent w u k e = ap (put_swept w u) e
 
+-- what the fault names is the first of two limits
+pub first_names : (e : TermFault) (o p : Option Limit) → Names e o → Names e (or_else o p)
+first_names (term.TooBig n) o p h = ap (λ x. or_else x p) h
+first_names (term.TooDeep n) o p h = ap (λ x. or_else x p) h
+first_names term.Memory o p h = tt
+
+pub second_names : (e : TermFault) (o p : Option Limit) → o ≡ None → Names e p → Names e (or_else o p)
+second_names (term.TooBig n) o p v h = ap (λ x. or_else x p) v ∙ h
+second_names (term.TooDeep n) o p v h = ap (λ x. or_else x p) v ∙ h
+second_names term.Memory o p v h = tt
+
 module _ (w : Swept) (u : HypothesisUse) (k : ℕ) (some : 0 < k) where
   abbrev made : ℕ → Work Swept
   made l = Made (swept_with (put_in w.whole u) (w.uses ++ u ∷ [])) l
 
-  new_past : (l : Limit) → first_limit u.new ≡ Some l → put_swept w u k ≡ Past l k
-  new_past l e = put_limited w u k some ∙ ap (λ o. unless_limit (or_else o (first_limit (put_in w.whole u))) k (made (k - 1))) e
+  put_past : (l : Limit) → put_limit w.whole u ≡ Some l → put_swept w u k ≡ Past l k
+  put_past l e = put_limited w u k some ∙ ap (λ o. unless_limit o k (made (k - 1))) e
 
-  whole_past : (l : Limit) → first_limit u.new ≡ None → first_limit (put_in w.whole u) ≡ Some l → put_swept w u k ≡ Past l k
-  whole_past l e g =
-      put_limited w u k some ∙ ap (λ o. unless_limit (or_else o (first_limit (put_in w.whole u))) k (made (k - 1))) e ∙ ap (λ o. unless_limit o k (made (k - 1))) g
+  -- the new subterm passes a limit, or the term around it does
+  pub put_hinders : (e : TermFault) → Names e (put_limit w.whole u) → Hinders (rewrite_fault e) k (put_swept w u k)
+  put_hinders (term.TooBig n) h = put_past (Big n) h
+  put_hinders (term.TooDeep n) h = put_past (Deep n) h
+  put_hinders term.Memory h = tt
 
-  -- the new subterm passes a limit
   pub new_hinders : (e : TermFault) → Names e (first_limit u.new) → Hinders (rewrite_fault e) k (put_swept w u k)
-  new_hinders (term.TooBig n) h = new_past (Big n) h
-  new_hinders (term.TooDeep n) h = new_past (Deep n) h
-  new_hinders term.Memory h = tt
+  new_hinders e h = put_hinders e (first_names e (first_limit u.new) (first_limit (put_in w.whole u)) h)
 
-  -- the term around it does
   pub whole_hinders : (e : TermFault) → first_limit u.new ≡ None → Names e (first_limit (put_in w.whole u)) → Hinders (rewrite_fault e) k (put_swept w u k)
-  whole_hinders (term.TooBig n) v h = whole_past (Big n) v h
-  whole_hinders (term.TooDeep n) v h = whole_past (Deep n) v h
-  whole_hinders term.Memory v h = tt
+  whole_hinders e v h = put_hinders e (second_names e (first_limit u.new) (first_limit (put_in w.whole u)) v h)
+
+  pub put_done : put_limit w.whole u ≡ None → put_swept w u k ≡ Made (swept_with (put_in w.whole u) (w.uses ++ u ∷ [])) (k - 1)
+  put_done e = put_limited w u k some ∙ ap (λ o. unless_limit o k (made (k - 1))) e
 
 -- ---- a term, and its arguments
 

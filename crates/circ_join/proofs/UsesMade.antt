@@ -20,6 +20,12 @@ use Rattle.circ_conditional_search.specs.Joining.{use_passing}
 use Rattle.circ_join.specs.Hypotheses.{way_at}
 use Rattle.circ_join.specs.Trying.{use_by, lemma_use_by}
 
+-- what is made of the same parts is the same
+pub same_use : {number : ℕ} {way is_way : Way} {path is_path : List ℕ} {terms are_terms : List Tree} {conds : ChainsOf Tree} {passes : Passes} {new is_new : Tree} → way ≡ is_way → path ≡ is_path
+    → terms ≡ are_terms → conds ≡ chains_by passes → new ≡ is_new
+    → record { number = number; way = way; path = path; terms = terms; conds = conds; new = new } ≡ use_passing number is_way is_path are_terms passes is_new
+same_use {number} w q t d n = λ i. record { number = number; way = w i; path = q i; terms = t i; conds = d i; new = n i }
+
 -- ---- of a hypothesis
 
 module _ (f : Normaliser) (p : ℕ) (h : Goal) (q : List ℕ) (new : Tree) (σ : Substitution) (k : ℕ) where
@@ -32,14 +38,8 @@ module _ (f : Normaliser) (p : ℕ) (h : Goal) (q : List ℕ) (new : Tree) (σ :
   pub no_use_made : (l : ℕ) → tried (Some f) σ h.conds k ≡ Made None l → use_by f p h q new σ k ≡ Made None l
   no_use_made l e = ap (map_found made) e
 
-  pub use_made : {number : ℕ} {way : Way} {path : List ℕ} {terms : List Tree} {conds : ChainsOf Tree} {given : Tree} (l : ℕ) (passes : Passes)
-      → tried (Some f) σ h.conds k ≡ Made (Some passes) l → number ≡ p / 2 → way ≡ way_at p → path ≡ q → terms ≡ terms_by σ (hypothesis_variables h)
-      → conds ≡ chains_by passes → given ≡ new
-      → use_by f p h q new σ k ≡ Made (Some (record { number = number; way = way; path = path; terms = terms; conds = conds; new = given })) l
-  use_made {number} {way} {path} {terms} {conds} {given} l passes e is_number is_way is_path are_terms are_conds is_new =
-      let u : HypothesisUse = record { number = number; way = way; path = path; terms = terms; conds = conds; new = given } in
-      let same : u ≡ made passes = λ i. record { number = is_number i; way = is_way i; path = is_path i; terms = are_terms i; conds = are_conds i; new = is_new i } in
-      ap (map_found made) e ∙ ap (λ x. Made (Some x) l) (sym same)
+  pub use_is : (u : HypothesisUse) (l : ℕ) (passes : Passes) → tried (Some f) σ h.conds k ≡ Made (Some passes) l → u ≡ made passes → use_by f p h q new σ k ≡ Made (Some u) l
+  use_is u l passes e same = ap (map_found made) e ∙ ap (λ x. Made (Some x) l) (sym same)
 
 -- ---- of a lemma
 
@@ -53,11 +53,5 @@ module _ (f : Normaliser) (r : Rule) (q : List ℕ) (σ : Substitution) (k : ℕ
   pub no_lemma_due : (l : ℕ) → tried (Some f) σ r.conds k ≡ Made None l → lemma_use_by f r q σ k ≡ Made None l
   no_lemma_due l e = ap (map_found due) e
 
-  pub lemma_due : {number : ℕ} {path : List ℕ} {terms : List Tree} {conds : ChainsOf Tree} {new : Tree} (l : ℕ) (passes : Passes)
-      → tried (Some f) σ r.conds k ≡ Made (Some passes) l → number ≡ rule_number r.name → path ≡ q → terms ≡ terms_by σ (rule_variables r)
-      → conds ≡ chains_by passes → new ≡ instance σ r.right
-      → lemma_use_by f r q σ k ≡ Made (Some (record { number = number; way = Forth; path = path; terms = terms; conds = conds; new = new })) l
-  lemma_due {number} {path} {terms} {conds} {new} l passes e is_number is_path are_terms are_conds is_new =
-      let u : HypothesisUse = record { number = number; way = Forth; path = path; terms = terms; conds = conds; new = new } in
-      let same : u ≡ due passes = λ i. record { number = is_number i; way = Forth; path = is_path i; terms = are_terms i; conds = are_conds i; new = is_new i } in
-      ap (map_found due) e ∙ ap (λ x. Made (Some x) l) (sym same)
+  pub lemma_is_due : (u : HypothesisUse) (l : ℕ) (passes : Passes) → tried (Some f) σ r.conds k ≡ Made (Some passes) l → u ≡ due passes → lemma_use_by f r q σ k ≡ Made (Some u) l
+  lemma_is_due u l passes e same = ap (map_found due) e ∙ ap (λ x. Made (Some x) l) (sym same)

@@ -1,5 +1,6 @@
 -- How conditions are tried, and what work answers that takes steps of a budget.
 use Rattle.std.specs.Prelude.{◌≡◌, ℕ, ◌/◌, ◌==◌, ◌&&◌, if◌then◌else◌, Bool, true, false, List, [], ◌++◌, Option, Some, None, Result, Ok, Err}
+use Rattle.circ_term.specs.Order.{is_same}
 use Rattle.circ_term.specs.Tree.{Tree, Var, App}
 use Rattle.circ_theory.specs.declared.parts.Goal.{Goal}
 use Rattle.circ_special.specs.declared.place.Place.{Place}
@@ -8,6 +9,7 @@ use Rattle.circ_theory.specs.declared.way.Way.TheVariants.{Forth}
 use Rattle.circ_rewrite.specs.Due.{rule_variables, terms_by}
 use Rattle.circ_rewrite.specs.Replacement.{Passes}
 use Rattle.circ_rewrite.specs.declared.fault.RewriteFault.{RewriteFault}
+use Rattle.circ_rewrite.specs.declared.parts.Normal.{Normal}
 use Rattle.circ_rewrite.specs.declared.parts.Pass.{Pass}
 use Rattle.circ_rewrite.specs.declared.parts.Rule.{Rule}
 use Rattle.circ_conditional_norm.specs.Norm.{conditional_norm}
@@ -47,6 +49,11 @@ TestsForms normal a b k left (Ok None) = (rest : ℕ → Work (Option Passes)) �
 TestsForms normal a b k left (Ok (Some pass)) =
     (rest : ℕ → Work (Option Passes)) → same_forms normal a b k rest ≡ map_found (pass_before pass) (rest left)
 TestsForms normal a b k left (Err e) = (rest : ℕ → Work (Option Passes)) → Hinders e left (same_forms normal a b k rest)
+
+-- the pass of two normal forms, which are one term; none where they are not
+abbrev pub IsPassOfForms : Normal → Normal → Option Pass → Type 0
+IsPassOfForms x y None = is_same x.term y.term ≡ false
+IsPassOfForms x y (Some pass) = (is_same x.term y.term ≡ true) × (pass.left.items ≡ x.traces.items) × (pass.right.items ≡ y.traces.items)
 
 -- one argument: it is equal, or stands at a place of the set and joins
 abbrev pub beside_alone : {A : Type 0} → (same at_place : Bool) → (one : ℕ → Work (Option (List A))) → (budget : ℕ) → Work (Option (List A))

@@ -5,9 +5,9 @@ ghost use Rattle.circ_theory.specs.Pairs.{plain_pair};
 ghost use Rattle.circ_conditional_norm.specs.Tries.{conditions_hold, tried};
 ghost use Rattle.circ_rewrite.specs.Plain.{plain_passes, rewrite_fault};
 ghost use Rattle.circ_tries.specs.Trying.{FindsPasses, TestsCondition};
-ghost use Rattle.circ_join.specs.Trying.{normaliser_of, TestsForms};
+ghost use Rattle.circ_join.specs.Trying.{normaliser_of, TestsForms, IsPassOfForms};
 
-use circ_rewrite::{Pass, RewriteFault};
+use circ_rewrite::{Normal, Pass, RewriteFault};
 use circ_term::{Subst, Term, TermFault};
 use circ_theory::Pair;
 use circ_tries::Reducer;
@@ -55,8 +55,14 @@ fn all_hold(
     let mut passes = Vec::new(alloc);
     for cond in conds {
         match holds(reducer, cond, subst, budget) {
-            Err(fault) => return Err(fault),
-            Ok(None) => return Ok(None),
+            Err(fault) => {
+                drop(passes);
+                return Err(fault);
+            }
+            Ok(None) => {
+                drop(passes);
+                return Ok(None);
+            }
             Ok(Some(pass)) => passes.push(pass)?,
         }
     }
@@ -103,17 +109,27 @@ fn have_same_form(
         Err(fault) => return Err(fault),
     };
     match reducer.normal(right, 1, budget) {
-        Err(fault) => Err(fault),
-        Ok(right) => {
-            if !left.term.same(&right.term) {
-                return Ok(None);
-            }
-            Ok(Some(Pass {
-                left: left.traces,
-                right: right.traces,
-            }))
+        Err(fault) => {
+            drop(left);
+            Err(fault)
         }
+        Ok(right) => Ok(pass_of(left, right)),
     }
+}
+
+// The replacements that lead to two normal forms, where these are one.
+fn pass_of(left: Normal, right: Normal) -> Option<Pass>
+    ensures { IsPassOfForms left right result }
+{
+    if !left.term.same(&right.term) {
+        drop(left);
+        drop(right);
+        return None;
+    }
+    Some(Pass {
+        left: left.traces,
+        right: right.traces,
+    })
 }
 
 /// Why there is no normal form where a term is not built.

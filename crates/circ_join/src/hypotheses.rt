@@ -9,6 +9,7 @@ use circ_term::{Subst, Term};
 use circ_theory::Goal;
 use std::alloc::{AllocError, Global};
 use std::marker::Model;
+use std::mem;
 
 /// The hypotheses of a block, in their order, found by their sides: the goals of earlier blocks,
 /// and behind them those of the block itself. Contracts see the goals of earlier blocks, and all.
@@ -76,7 +77,8 @@ impl Hypotheses {
         ensures { self.new ≡ hypotheses_with self.old.earlier self.old.earlier }
     {
         self.goals.truncate(self.earlier.len());
-        self.own = PairIndex::new(self.alloc);
+        let none = PairIndex::new(self.alloc);
+        drop(mem::replace(&mut self.own, none));
     }
 
     // Puts a goal of an earlier block last, where there are no hypotheses of the block itself.

@@ -1,16 +1,22 @@
 //! What a lemma pass makes of a term.
-ghost use Rattle.std.specs.Prelude.{◌≡◌, ◌≤◌, ◌<◌, [], ◌∷◌, ◌++◌, length, Some, OnOk};
+ghost use Rattle.std.specs.Prelude.{◌≡◌, ◌≤◌, ◌<◌, [], ◌∷◌, ◌++◌, length, Some, IfOk, OnOk};
 ghost use Rattle.std.specs.Option.{option_map};
 ghost use Rattle.std.specs.List.{slice_get};
 ghost use Rattle.circ_term.specs.Subst.{substitution_of};
+ghost use Rattle.circ_term.specs.Substitution.{instance};
 ghost use Rattle.circ_term.specs.Tree.{trees_of};
+ghost use Rattle.circ_theory.specs.declared.way.Way.TheVariants.{Forth};
+ghost use Rattle.circ_rewrite.specs.Due.{IsRewriteRule, rule_variables, terms_by};
+ghost use Rattle.circ_rewrite.specs.Plain.{plain_passes};
 ghost use Rattle.circ_rewrite.specs.declared.parts.Rule.{Rule as TheRule};
-ghost use Rattle.circ_plain_search.specs.Joining.{is_place};
+ghost use Rattle.circ_plain_search.specs.Joining.{is_place, rule_number};
 ghost use Rattle.circ_conditional_search.specs.Joining.{swept_with, swept_trying, put_swept};
 ghost use Rattle.circ_conditional_search.specs.Joining.{all_swept_trying, first_lemma_trying};
+ghost use Rattle.circ_conditional_search.specs.Joining.{use_passing};
 ghost use Rattle.circ_join.specs.Binding.{BindsLeft};
 ghost use Rattle.circ_join.specs.Trying.{normaliser_of, Works, lemma_use_by};
-ghost use Rattle.circ_join.specs.Sweeping.{plain_swept, plain_due, Goes, swept_place};
+ghost use Rattle.circ_join.specs.Sweeping.{plain_swept, plain_due, Goes, swept_place, BuildsDue};
+ghost use Rattle.circ_join.specs.Uses.{plain_use};
 
 use crate::conditions::{passes, rewrite_fault};
 use crate::joining::has_place;
@@ -18,12 +24,12 @@ use crate::lemmas::{Lemmas, rule_number};
 use crate::putting::put_at;
 use crate::uses::{HypothesisUse, chains_of};
 use circ_proof::Chain;
-use circ_rewrite::RewriteFault;
+use circ_rewrite::{Pass, RewriteFault, Rule};
 use circ_special::Gamma;
-use circ_term::{Kind, Path, Subst, Term};
+use circ_term::{Kind, Path, Subst, Term, TermFault};
 use circ_theory::Way;
 use circ_tries::Reducer;
-use std::alloc::Global;
+use std::alloc::{AllocError, Global};
 
 /// What a lemma pass may use.
 #[derive(Clone, Copy)]
@@ -220,16 +226,15 @@ impl<'a> Passing<'a> {
     {
         let lemma = &self.lemmas.rules()[place as usize];
         match passes(self.alloc, reducer, lemma.conds.as_slice(), &subst, budget) {
-            Err(fault) => Err(fault),
-            Ok(None) => Ok(None),
-            Ok(Some(passes)) => Ok(Some(DueLemma {
-                number: rule_number(lemma.name),
-                path: Path::from_slice(self.alloc, path)?,
-                terms: subst.terms()?,
-                conds: chains_of(self.alloc, passes)?,
-                subst,
-                right: &lemma.right,
-            })),
+            Err(fault) => {
+                drop(subst);
+                Err(fault)
+            }
+            Ok(None) => {
+                drop(subst);
+                Ok(None)
+            }
+            Ok(Some(passes)) => Ok(Some(due_lemma(self.alloc, lemma, subst, path, passes)?)),
         }
     }
 
@@ -246,26 +251,77 @@ impl<'a> Passing<'a> {
         ensures less { budget.new ≤ budget.old }
     {
         if *budget == 0 {
+            drop(due);
             return Err(RewriteFault::Spent);
         }
-        let new = match due.subst.apply(due.right) {
-            Ok(new) => new,
-            Err(fault) => return Err(rewrite_fault(fault)),
-        };
-        let whole = match put_at(self.alloc, &swept.whole, due.path.as_slice(), &new) {
-            Ok(whole) => whole,
-            Err(fault) => return Err(rewrite_fault(fault)),
-        };
-        swept.uses.push(HypothesisUse {
-            number: due.number,
-            way: Way::Forth,
-            path: due.path,
-            terms: due.terms,
-            conds: due.conds,
-            new,
-        })?;
-        swept.whole = whole;
-        *budget -= 1;
-        Ok(())
+        match build_due(self.alloc, &swept.whole, &due) {
+            Err(fault) => {
+                drop(due);
+                Err(rewrite_fault(fault))
+            }
+            Ok((whole, new)) => {
+                swept.uses.push(use_of(due, new))?;
+                swept.whole = whole;
+                *budget -= 1;
+                Ok(())
+            }
+        }
+    }
+}
+
+// A lemma whose left side was found at a path, with the passes of its conditions.
+fn due_lemma<'a>(
+    alloc: Global,
+    lemma: &'a Rule,
+    subst: Subst,
+    path: &[u16],
+    passes: Vec<Pass>,
+) -> Result<DueLemma<'a>, AllocError>
+    requires rewrites { IsRewriteRule lemma.now }
+    requires binds { BindsLeft lemma.now subst }
+    ensures { IfOk result (λ d. plain_due d ≡ use_passing (rule_number lemma.now.name) Forth
+        path.now (terms_by (substitution_of subst) (rule_variables lemma.now))
+        (plain_passes passes.items) (instance (substitution_of subst) lemma.now.right)) }
+{
+    let conds = chains_of(alloc, passes)?;
+    let terms = subst.terms()?;
+    Ok(DueLemma {
+        number: rule_number(lemma.name),
+        path: Path::from_slice(alloc, path)?,
+        terms,
+        conds,
+        subst,
+        right: &lemma.right,
+    })
+}
+
+// The whole term with a lemma's right side at its path, and that side.
+fn build_due(
+    alloc: Global,
+    whole: &Term,
+    due: &DueLemma<'_>,
+) -> Result<(Term, Term), TermFault>
+    ensures { BuildsDue whole.now (plain_due due.now) result }
+{
+    match due.subst.apply(due.right) {
+        Err(fault) => Err(fault),
+        Ok(new) => match put_at(alloc, whole, due.path.as_slice(), &new) {
+            Err(fault) => Err(fault),
+            Ok(whole) => Ok((whole, new)),
+        },
+    }
+}
+
+// The use of a lemma whose right side is built.
+fn use_of(due: DueLemma<'_>, new: Term) -> HypothesisUse
+    ensures { plain_use result ≡ record (plain_due due.entry) { new = new } }
+{
+    HypothesisUse {
+        number: due.number,
+        way: Way::Forth,
+        path: due.path,
+        terms: due.terms,
+        conds: due.conds,
+        new,
     }
 }

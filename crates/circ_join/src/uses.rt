@@ -3,8 +3,8 @@ ghost use Rattle.std.specs.Prelude.{◌≡◌, map, IfOk, OnOk};
 ghost use Rattle.circ_plain_search.specs.Joining.{use_link};
 ghost use Rattle.circ_plain_search.specs.Search.{chained};
 ghost use Rattle.circ_proof.specs.Plain.{plain_chain, plain_chains, plain_link, plain_links};
-ghost use Rattle.circ_rewrite.specs.Links.{chains_by};
-ghost use Rattle.circ_rewrite.specs.Plain.{plain_passes};
+ghost use Rattle.circ_rewrite.specs.Links.{chains_by, link_of};
+ghost use Rattle.circ_rewrite.specs.Plain.{plain_passes, plain_traces};
 ghost use Rattle.circ_join.specs.Uses.{plain_use, plain_uses};
 
 use circ_proof::{Chain, Link};
@@ -75,10 +75,20 @@ pub fn chains_of(alloc: Global, passes: Vec<Pass>) -> Result<Vec<Chain<Term>>, A
 {
     let mut chains = Vec::with_capacity(alloc, passes.len())?;
     for pass in passes {
-        let Pass { left, right } = pass;
-        let left = links_of(alloc, left)?;
-        let right = links_of(alloc, right)?;
-        chains.push(Chain { left, right })?;
+        chains.push(chain_of(alloc, pass)?)?;
     }
     Ok(chains)
+}
+
+// The links on both sides of one condition.
+fn chain_of(alloc: Global, pass: Pass) -> Result<Chain<Term>, AllocError>
+    ensures { IfOk result (λ c. plain_chain c ≡ record {
+      left = map link_of (plain_traces pass.left.items);
+      right = map link_of (plain_traces pass.right.items);
+    }) }
+{
+    let Pass { left, right } = pass;
+    let left = links_of(alloc, left)?;
+    let right = links_of(alloc, right)?;
+    Ok(Chain { left, right })
 }

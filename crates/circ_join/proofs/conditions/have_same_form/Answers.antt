@@ -1,7 +1,6 @@
 use Rattle.circ_rewrite.specs.Plain.{plain_traces}
 use Rattle.circ_join.specs.Trying.{normaliser_of}
-use Rattle.circ_join.proofs.Joins.{not_same, is_same_at}
-use Rattle.circ_join.proofs.SameForms.{first_hindered, second_hindered, other_forms, one_form}
+use Rattle.circ_join.proofs.SameForms.{first_hindered, second_hindered, forms_pass}
 use Rattle.circ_join.proofs.conditions.have_same_form.Goals as goal
 
 pub returns-in-Err-clause-exact : goal.returns-in-Err-clause-exact
@@ -14,18 +13,7 @@ returns-in-Err-normal-clause-exact c = λ rest.
     second_hindered (normaliser_of c.args.reducer.now) c.args.left.now c.args.right.now c.args.budget.now rest x.term (plain_traces x.traces.items) c.normal.new.budget
     c.in-Ok.ensures.exact c.in-Err-normal.fault c.normal-2.new.budget (rw c.normal.ensures.same at c.in-Err-normal.ensures.exact)
 
-pub returns-then-not-same-clause-exact : goal.returns-then-not-same-clause-exact
-returns-then-not-same-clause-exact c = λ rest.
-    let x = c.in-Ok.normal in
-    let y = c.in-Ok-normal.right in
-    other_forms (normaliser_of c.args.reducer.now) c.args.left.now c.args.right.now c.args.budget.now rest x.term (plain_traces x.traces.items) c.normal.new.budget
-    c.in-Ok.ensures.exact y.term (plain_traces y.traces.items) c.normal-2.new.budget (rw c.normal.ensures.same at c.in-Ok-normal.ensures.exact)
-    (not_same c.same.result x.term y.term c.same.ensures c.if-not-same.true)
-
-pub returns-else-not-same-clause-exact : goal.returns-else-not-same-clause-exact
-returns-else-not-same-clause-exact c = λ rest.
-    let x = c.in-Ok.normal in
-    let y = c.in-Ok-normal.right in
-    one_form (normaliser_of c.args.reducer.now) c.args.left.now c.args.right.now c.args.budget.now rest x.term (plain_traces x.traces.items) c.normal.new.budget
-    c.in-Ok.ensures.exact y.term (plain_traces y.traces.items) c.normal-2.new.budget (rw c.normal.ensures.same at c.in-Ok-normal.ensures.exact)
-    (is_same_at x.term y.term (c.same.ensures.0 c.if-not-same.false))
+pub returns-in-Ok-normal-clause-exact : goal.returns-in-Ok-normal-clause-exact
+returns-in-Ok-normal-clause-exact c =
+    forms_pass (normaliser_of c.args.reducer.now) c.args.left.now c.args.right.now c.args.budget.now c.normal.new.budget c.normal-2.new.budget c.in-Ok.normal c.in-Ok-normal.right
+    c.in-Ok.ensures.exact (rw c.normal.ensures.same at c.in-Ok-normal.ensures.exact) c.pass_of.result c.pass_of.ensures
