@@ -17,7 +17,7 @@ use Rattle.circ_steps.specs.declared.derivative.SharedDerivative.{SharedDerivati
 use Rattle.circ_steps.specs.Derivatives.{IsDerivativeAt}
 use Rattle.circ_steps.proofs.Numbering.{derivatives_length, derivative_at as shared_at}
 use Rattle.circ_certificates.specs.declared.guard.Asked.{Asked}
-use Rattle.circ_certificates.specs.Covering.{IsAsked, terms_of, begins, begun, below}
+use Rattle.circ_certificates.specs.Covering.{IsAsked, numbered_terms, begins, begun, below}
 use Rattle.circ_certificates.proofs.Members.{drop_here, one_more, first, later}
 
 -- ---- whether a derivative begins
@@ -66,7 +66,7 @@ derivatives_over a asked i l = omega (arith, derivatives_length a.nodes.now a.ru
 -- the bodies of those of the first i derivatives that begin stand behind the others
 pub record AreBegun (a : Asked) (here : Bool) (t : Tree) (ds : List Derivative) (start : List ℕ) (i : ℕ) (ns : List ℕ) : Type 0 where
   pub there : AllByRecursion (λ n. n < length a.nodes.now) ns
-  pub made : terms_of a ns ++ begun a here t (drop i ds) ≡ terms_of a start ++ begun a here t ds
+  pub made : numbered_terms a ns ++ begun a here t (drop i ds) ≡ numbered_terms a start ++ begun a here t ds
 
 module _ (a : Asked) (here : Bool) (t : Tree) (ds : List Derivative) (start : List ℕ) where
   pub begun_first : (ns : List ℕ) → ns ≡ start → AllByRecursion (λ n. n < length a.nodes.now) start → AreBegun a here t ds start 0 ns
@@ -92,16 +92,16 @@ module _ (a : Asked) (here : Bool) (t : Tree) (ds : List Derivative) (start : Li
   begun_over i d ns at e h =
       let z : begins a here t d ≡ false = sym e in
       let from : begun a here t (drop i ds) ≡ begun a here t (drop (i + 1) ds) = ap (begun a here t) at.rest ∙ rw z refl in
-      record { there = h.there; made = ap (λ xs. terms_of a ns ++ xs) (sym from) ∙ h.made }
+      record { there = h.there; made = ap (λ xs. numbered_terms a ns ++ xs) (sym from) ∙ h.made }
 
-  pub begun_all : (i : ℕ) (ns : List ℕ) → length ds ≤ i → AreBegun a here t ds start i ns → terms_of a ns ≡ terms_of a start ++ begun a here t ds
-  begun_all i ns l h = sym (append-nil (terms_of a ns)) ∙ ap (λ xs. terms_of a ns ++ begun a here t xs) (sym (drop_all i ds l)) ∙ h.made
+  pub begun_all : (i : ℕ) (ns : List ℕ) → length ds ≤ i → AreBegun a here t ds start i ns → numbered_terms a ns ≡ numbered_terms a start ++ begun a here t ds
+  begun_all i ns l h = sym (append-nil (numbered_terms a ns)) ∙ ap (λ xs. numbered_terms a ns ++ begun a here t xs) (sym (drop_all i ds l)) ∙ h.made
 
 -- ---- the arguments of bodies, one after another
 
 pub record AreBelow (a : Asked) (place : ℕ) (bodies : List ℕ) (i : ℕ) (ns : List ℕ) : Type 0 where
   pub there : AllByRecursion (λ n. n < length a.nodes.now) ns
-  pub made : terms_of a ns ++ below place (terms_of a (drop i bodies)) ≡ below place (terms_of a bodies)
+  pub made : numbered_terms a ns ++ below place (numbered_terms a (drop i bodies)) ≡ below place (numbered_terms a bodies)
 
 module _ (a : Asked) (place : ℕ) (bodies : List ℕ) where
   pub below_first : (ns : List ℕ) → ns ≡ [] → AreBelow a place bodies 0 ns
@@ -112,9 +112,9 @@ module _ (a : Asked) (place : ℕ) (bodies : List ℕ) where
       → AreBelow a place bodies i ns → AreBelow a place bodies (i + 1) ms
   below_next i n ns ms l p put h =
       let f = tree_at a.nodes.now in
-      let rest : List Tree = below place (terms_of a (drop (i + 1) bodies)) in
+      let rest : List Tree = below place (numbered_terms a (drop (i + 1) bodies)) in
       let got = p.1 in
-      let from : below place (terms_of a (drop i bodies)) ≡ p.0 ∷ rest = ap (λ xs. below place (terms_of a xs)) (drop_here bodies i l) ∙ rw got refl in
+      let from : below place (numbered_terms a (drop i bodies)) ≡ p.0 ∷ rest = ap (λ xs. below place (numbered_terms a xs)) (drop_here bodies i l) ∙ rw got refl in
       record {
         there = rw put (one_more (λ m. m < length a.nodes.now) ns n h.there (named_below a.nodes.now n p.0 p.2));
         made =
@@ -126,13 +126,13 @@ module _ (a : Asked) (place : ℕ) (bodies : List ℕ) where
   pub below_over : (i : ℕ) (ns : List ℕ) → i < length bodies
       → slice_get (args_of (tree_at a.nodes.now (slice_index_or bodies i 0))) place ≡ None → AreBelow a place bodies i ns → AreBelow a place bodies (i + 1) ns
   below_over i ns l got h =
-      let from : below place (terms_of a (drop i bodies)) ≡ below place (terms_of a (drop (i + 1) bodies))
-      = ap (λ xs. below place (terms_of a xs)) (drop_here bodies i l) ∙ rw got refl in
-      record { there = h.there; made = ap (λ xs. terms_of a ns ++ xs) (sym from) ∙ h.made }
+      let from : below place (numbered_terms a (drop i bodies)) ≡ below place (numbered_terms a (drop (i + 1) bodies))
+      = ap (λ xs. below place (numbered_terms a xs)) (drop_here bodies i l) ∙ rw got refl in
+      record { there = h.there; made = ap (λ xs. numbered_terms a ns ++ xs) (sym from) ∙ h.made }
 
-  pub below_all : (i : ℕ) (ns : List ℕ) → length bodies ≤ i → AreBelow a place bodies i ns → terms_of a ns ≡ below place (terms_of a bodies)
+  pub below_all : (i : ℕ) (ns : List ℕ) → length bodies ≤ i → AreBelow a place bodies i ns → numbered_terms a ns ≡ below place (numbered_terms a bodies)
   below_all i ns l h =
-      sym (append-nil (terms_of a ns)) ∙ ap (λ xs. terms_of a ns ++ below place (terms_of a xs)) (sym (drop_all i bodies l)) ∙ h.made
+      sym (append-nil (numbered_terms a ns)) ∙ ap (λ xs. numbered_terms a ns ++ below place (numbered_terms a xs)) (sym (drop_all i bodies l)) ∙ h.made
 
 -- ---- the hole among bodies
 
@@ -164,25 +164,25 @@ any_from n s (t ∷ ts) c =
 
 module _ (a : Asked) (bodies : List ℕ) where
   abbrev pub any_from_place : ℕ → Bool
-  any_from_place i = list_any (is_variable 0 a.sort) (terms_of a (drop i bodies))
+  any_from_place i = list_any (is_variable 0 a.sort) (numbered_terms a (drop i bodies))
 
   any_at : (i : ℕ) → i < length bodies
       → any_from_place i ≡ (is_variable 0 a.sort (tree_at a.nodes.now (slice_index_or bodies i 0)) || any_from_place (i + 1))
-  any_at i l = ap (λ xs. list_any (is_variable 0 a.sort) (terms_of a xs)) (drop_here bodies i l)
+  any_at i l = ap (λ xs. list_any (is_variable 0 a.sort) (numbered_terms a xs)) (drop_here bodies i l)
 
   pub hole_found : (i : ℕ) → i < length bodies → true ≡ is_variable 0 a.sort (tree_at a.nodes.now (slice_index_or bodies i 0))
-      → any_from_place i ≡ any_from_place 0 → IsTrue true ↔ Contains (terms_of a bodies) (Var 0 a.sort)
+      → any_from_place i ≡ any_from_place 0 → IsTrue true ↔ Contains (numbered_terms a bodies) (Var 0 a.sort)
   hole_found i l e h =
       let one : any_from_place i ≡ true = any_at i l ∙ ap (λ b. b || any_from_place (i + 1)) (sym e) in
-      ((λ t. any_to 0 a.sort (terms_of a bodies) (sym h ∙ one)), (λ c. refl))
+      ((λ t. any_to 0 a.sort (numbered_terms a bodies) (sym h ∙ one)), (λ c. refl))
 
   pub hole_over : (i : ℕ) → i < length bodies → false ≡ is_variable 0 a.sort (tree_at a.nodes.now (slice_index_or bodies i 0))
       → any_from_place i ≡ any_from_place 0 → any_from_place (i + 1) ≡ any_from_place 0
   hole_over i l e h = ap (λ b. b || any_from_place (i + 1)) e ∙ sym (any_at i l) ∙ h
 
-  pub no_hole : (i : ℕ) → length bodies ≤ i → any_from_place i ≡ any_from_place 0 → IsTrue false ↔ Contains (terms_of a bodies) (Var 0 a.sort)
+  pub no_hole : (i : ℕ) → length bodies ≤ i → any_from_place i ≡ any_from_place 0 → IsTrue false ↔ Contains (numbered_terms a bodies) (Var 0 a.sort)
   no_hole i l h =
-      let none : any_from_place i ≡ false = ap (λ xs. list_any (is_variable 0 a.sort) (terms_of a xs)) (drop_all i bodies l) in (
+      let none : any_from_place i ≡ false = ap (λ xs. list_any (is_variable 0 a.sort) (numbered_terms a xs)) (drop_all i bodies l) in (
         (λ t. absurd (cc)),
-        (λ c. absurd (let z = sym none ∙ h ∙ any_from 0 a.sort (terms_of a bodies) c in cc)),
+        (λ c. absurd (let z = sym none ∙ h ∙ any_from 0 a.sort (numbered_terms a bodies) c in cc)),
       )

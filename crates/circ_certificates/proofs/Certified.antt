@@ -1,5 +1,5 @@
 -- Where the links of a certificate lead, by number.
-use Rattle.std.proofs.Common.{◌≡◌, ◌↔◌, ℕ, Bool, List, [], ◌∷◌, map, Option, Some, None, Result, Ok, Err, IfOk, IsTrue, sym, subst, ◌∙◌}
+use Rattle.std.proofs.Common.{◌≡◌, ◌↔◌, ℕ, Bool, List, [], map, Option, Some, None, Result, Ok, Err, IfOk, IsTrue, sym, subst, ◌∙◌}
 use Rattle.std.specs.List.{slice_get}
 use Rattle.std.specs.Option.{IfSome, option_map}
 use Rattle.circ_term.specs.Growing.{Grows}
@@ -18,14 +18,10 @@ use Rattle.circ_nodes.specs.Named.{IsNamed, tree_at}
 use Rattle.circ_nodes.proofs.Located.{named_tree, trees_later}
 use Rattle.circ_rules.specs.Answers.{Gives}
 use Rattle.circ_rules.specs.Deriving.{IsBuilt}
-use Rattle.circ_rules.specs.Due.{due_after, CertifiesNext}
-use Rattle.circ_rules.specs.declared.due.Due.{Due}
 use Rattle.circ_rules.proofs.Starting.{last_decides}
 use Rattle.circ_shared.specs.Interned.{OfTerm}
 use Rattle.circ_steps.specs.declared.rules.Rules.{Rules}
 use Rattle.circ_steps.specs.Judging.{AreRules, terms_at}
-use Rattle.circ_certificates.specs.declared.certifying.Slot.{Slot}
-use Rattle.circ_certificates.specs.Due.{IsDueSlot}
 
 -- links are followed over the table as it was before the start term was entered
 pub follows_from : (old mid new : List Tree) (g : Grows old mid) (r : Rules) → AreRules old r → (ls : List (LinkOf ℕ)) (n : ℕ) (first : Tree) → IsNamed mid n first
@@ -51,16 +47,3 @@ decided th g o listed n hole G p k argument ls first built last leads (Err e) h 
     any : (x : Option Derivative) → IfSome x (λ d. Unit {0})
     any None = tt
     any (Some d) = tt
-
--- the links that certify the slot certify what was due first
-pub slot_certified : (th : Theory) (G : List Place) (old new : Due) (s : Slot) (ls : List (LinkOf Tree)) (holds : Bool) → (k : IsDueSlot th G old s new)
-    → (IsTrue holds ↔ Certified th G s.place k.derivative ls) → CertifiesNext th G old new ls holds
-slot_certified th G old new s ls holds k c =
-    record {
-      next = λ x xs e.
-          let same : (s.place, k.derivative) ∷ due_after th G new ≡ x ∷ xs = sym k.first ∙ e in
-          let head : (s.place, k.derivative) ≡ x = cc in
-          let tail : due_after th G new ≡ xs = cc in
-          let P : Place × Derivative → Type 0 = λ y. IsTrue holds ↔ Certified th G y.0 y.1 ls in (tail, subst P head c);
-      none = λ e. absurd (let z : (s.place, k.derivative) ∷ due_after th G new ≡ [] = sym k.first ∙ e in cc);
-    }

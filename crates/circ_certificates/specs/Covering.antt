@@ -16,8 +16,8 @@ abbrev pub IsAsked : Asked → Type 0
 IsAsked a = AreRules a.nodes.now a.rules
 
 -- the terms of these numbers
-abbrev pub terms_of : Asked → List ℕ → List Tree
-terms_of a ns = map (tree_at a.nodes.now) ns
+abbrev pub numbered_terms : Asked → List ℕ → List Tree
+numbered_terms a ns = map (tree_at a.nodes.now) ns
 
 -- An instance at the path q of t counts, of a derivative with this result sort: it is visible, or the path from the root is special. Here says that it is
 -- special up to t.

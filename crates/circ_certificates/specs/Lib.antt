@@ -1,3 +1,2 @@
 pub mod Covering
 pub mod Visits
-pub mod Due

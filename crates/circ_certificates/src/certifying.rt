@@ -1,6 +1,5 @@
 //! Certificates by number, one after the other.
-ghost use Rattle.std.specs.Prelude.{◌≡◌, ◌<◌, ◌-◌, ◌↔◌, ◌^◌, [], length, IsTrue};
-ghost use Rattle.std.specs.Prelude.{Some, IfOk, OnErr, MatchOption};
+ghost use Rattle.std.specs.Prelude.{◌≡◌, ◌<◌, ◌↔◌, length, IsTrue, Some, IfOk, OnErr};
 ghost use Rattle.std.specs.List.{AllByRecursion, slice_get};
 ghost use Rattle.std.specs.Option.{IfSome, option_map};
 ghost use Rattle.circ_term.specs.Growing.{Grows};
@@ -9,27 +8,16 @@ ghost use Rattle.circ_proof.specs.Plain.{plain_links};
 ghost use Rattle.circ_proof.specs.Link.{AllOfLinks, resolved_links};
 ghost use Rattle.circ_proof.specs.Certified.{Certified};
 ghost use Rattle.circ_rules.specs.Admitting.{IsStart};
-ghost use Rattle.circ_rules.specs.Due.{derivatives_from, due_after, IsFirst, NoneAt, IsFirstAt};
 ghost use Rattle.circ_rules.specs.Due.{CertifiesNext};
 ghost use Rattle.circ_steps.specs.Judging.{AreRules, terms_at};
-ghost use Rattle.circ_certificates.specs.Due.{IsDueSlot};
 
 use crate::guard::guarded;
 use circ_nodes::Nodes;
 use circ_proof::Link;
-use circ_rules::{Due, Start, start_at, start_term};
+use circ_rules::{Due, Start, next_slot, start_at, start_term};
 use circ_shared::Sources;
-use circ_special::Place;
 use circ_steps::Rules;
-use circ_theory::Theory;
 use std::alloc::AllocError;
-
-// A place, and the number of a derivative of its result sort.
-#[derive(Clone, Copy)]
-struct Slot {
-    place: Place,
-    derivative: u32,
-}
 
 /// Whether the links are the certificate that is due next; `due` goes on to the one behind it. If
 /// none is due, or memory runs out, `due` is as before. The terms that were made on the way are
@@ -74,7 +62,7 @@ fn certify(
     ensures kept { OnErr result (due.new ≡ due.old) }
 {
     let mut next = *due;
-    let Some(slot) = next_slot(rules, &mut next) else {
+    let Some(slot) = next_slot(rules.theory, rules.gamma, &mut next) else {
         return Ok(false);
     };
     let start = start_at(rules.alloc, rules.theory, slot.place)?;
@@ -120,53 +108,4 @@ fn certifies(
         return Ok(false);
     };
     guarded(rules, nodes, last, 0, start.sort)
-}
-
-// What the next certificate is due for.
-fn next_slot(rules: &Rules<'_>, due: &mut Due) -> Option<Slot>
-    requires { AllByRecursion (IsPlace rules.now.theory.now) rules.now.gamma.now }
-    ensures { MatchOption result
-        (due_after rules.now.theory.now rules.now.gamma.now due.old ≡ [])
-        (λ s. IsDueSlot rules.now.theory.now rules.now.gamma.now due.old s due.new) }
-{
-    let places = rules.gamma.places();
-    let mut from = due.derivative;
-    for number in due.place..places.len() {
-        let place = places[number];
-        if let Some(derivative) = next_at(rules.theory, place, from) {
-            *due = Due {
-                place: number,
-                derivative: derivative + 1,
-            };
-            return Some(Slot { place, derivative });
-        }
-        from = 0;
-    }
-    None
-}
-
-// The first derivative of the place's result sort, from this number on.
-fn next_at(theory: &Theory, place: Place, from: u32) -> Option<u32>
-    ensures first { MatchOption result (NoneAt theory.now place from)
-        (IsFirstAt theory.now place from) }
-    ensures small { IfSome result (λ n. n < 2 ^ 32 - 1) }
-{
-    match theory.op(place.op) {
-        Some(decl) => next_derivative(theory, decl.result, from),
-        None => None,
-    }
-}
-
-// The first derivative with a hole of the sort, from this number on.
-fn next_derivative(theory: &Theory, sort: u32, from: u32) -> Option<u32>
-    ensures first { MatchOption result (derivatives_from theory.now sort from ≡ [])
-        (IsFirst theory.now sort from) }
-    ensures small { IfSome result (λ n. n < 2 ^ 32 - 1) }
-{
-    for derivative in from..theory.derivative_count() {
-        if theory.takes(derivative, sort) {
-            return Some(derivative);
-        }
-    }
-    None
 }

@@ -10,9 +10,9 @@ ghost use Rattle.circ_special.specs.Special.{place};
 ghost use Rattle.circ_nodes.specs.Named.{tree_at};
 ghost use Rattle.circ_steps.specs.Derivatives.{IsDerivativeAt};
 ghost use Rattle.circ_steps.specs.Judging.{AreRules};
-ghost use Rattle.circ_certificates.specs.Covering.{begins, begun, below, terms_of, IsAsked};
+ghost use Rattle.circ_certificates.specs.Covering.{begins, begun, below, numbered_terms, IsAsked};
 ghost use Rattle.circ_certificates.specs.Covering.{IsCovered, AreCovered};
-ghost use Rattle.circ_certificates.specs.Visits.{IsVisit, Holds, AreSeen};
+ghost use Rattle.circ_certificates.specs.Visits.{IsVisit, IsCoveredVisit, AreCoveredVisits};
 
 use crate::fitting::{fits, is_variable};
 use circ_nodes::{Nodes, Numbers, Shape};
@@ -79,9 +79,9 @@ impl Asked<'_> {
     fn holds(&self, seen: &mut IndexSet<Visit>, visit: Visit) -> Result<bool, AllocError>
         requires asked { IsAsked self.now }
         requires visit { IsVisit self.now visit }
-        requires seen { AreSeen self.now seen.old.keys }
-        ensures seen { OnOk result (AreSeen self.now seen.new.keys) }
-        ensures exact { IfOk result (λ b. IsTrue b ↔ Holds self.now visit) }
+        requires seen { AreCoveredVisits self.now seen.old.keys }
+        ensures seen { OnOk result (AreCoveredVisits self.now seen.new.keys) }
+        ensures exact { IfOk result (λ b. IsTrue b ↔ IsCoveredVisit self.now visit) }
     {
         if self.nodes.is_ground(visit.term) {
             return Ok(true);
@@ -101,9 +101,9 @@ impl Asked<'_> {
     fn holds_below(&self, seen: &mut IndexSet<Visit>, visit: &Visit) -> Result<bool, AllocError>
         requires asked { IsAsked self.now }
         requires visit { IsVisit self.now visit.now }
-        requires seen { AreSeen self.now seen.old.keys }
-        ensures seen { OnOk result (AreSeen self.now seen.new.keys) }
-        ensures exact { IfOk result (λ b. IsTrue b ↔ Holds self.now visit.now) }
+        requires seen { AreCoveredVisits self.now seen.old.keys }
+        ensures seen { OnOk result (AreCoveredVisits self.now seen.new.keys) }
+        ensures exact { IfOk result (λ b. IsTrue b ↔ IsCoveredVisit self.now visit.now) }
     {
         self.rules.theory.known();
         let bodies = self.bodies_at(visit)?;
@@ -131,10 +131,10 @@ impl Asked<'_> {
         requires args { AllByRecursion (λ n. n < length self.now.nodes.now) args.now }
         requires few { length args.now ≤ 2 ^ 16 }
         requires bodies { AllByRecursion (λ n. n < length self.now.nodes.now) bodies.now }
-        requires seen { AreSeen self.now seen.old.keys }
-        ensures seen { OnOk result (AreSeen self.now seen.new.keys) }
+        requires seen { AreCoveredVisits self.now seen.old.keys }
+        ensures seen { OnOk result (AreCoveredVisits self.now seen.new.keys) }
         ensures exact { IfOk result (λ b. IsTrue b ↔ AreCovered self.now (is_special ≡ true) op
-            (terms_of self.now bodies.now) (terms_of self.now args.now)) }
+            (numbered_terms self.now bodies.now) (numbered_terms self.now args.now)) }
     {
         for place in 0..args.len() {
             let inner = self.below(bodies, place)?;
@@ -167,7 +167,7 @@ impl Asked<'_> {
         requires { AllByRecursion (λ n. n < length self.now.nodes.now) bodies.now }
         ensures { IsTrue result ↔ (Var number sort ≡ Var self.now.id self.now.sort →
             (is_special ≡ true) ⊎
-            Contains (terms_of self.now bodies.now) (Var 0 self.now.sort)) }
+            Contains (numbered_terms self.now bodies.now) (Var 0 self.now.sort)) }
     {
         if number != self.id {
             return true;
@@ -185,7 +185,7 @@ impl Asked<'_> {
     fn has_hole(&self, bodies: &[u32]) -> bool
         requires { AllByRecursion (λ n. n < length self.now.nodes.now) bodies.now }
         ensures { IsTrue result ↔
-            Contains (terms_of self.now bodies.now) (Var 0 self.now.sort) }
+            Contains (numbered_terms self.now bodies.now) (Var 0 self.now.sort) }
     {
         for body in bodies {
             if is_variable(self.nodes, *body, 0, self.sort) {
@@ -201,7 +201,7 @@ impl Asked<'_> {
         ensures there { IfOk result (λ v.
             AllByRecursion (λ n. n < length self.now.nodes.now) v.items) }
         ensures below { IfOk result (λ v.
-            terms_of self.now v.items ≡ below place (terms_of self.now bodies.now)) }
+            numbered_terms self.now v.items ≡ below place (numbered_terms self.now bodies.now)) }
     {
         let mut args = Numbers::new(self.rules.alloc);
         for body in bodies {
@@ -218,8 +218,8 @@ impl Asked<'_> {
         requires visit { IsVisit self.now visit.now }
         ensures there { IfOk result (λ v.
             AllByRecursion (λ n. n < length self.now.nodes.now) v.items) }
-        ensures bodies { IfOk result (λ v. terms_of self.now v.items ≡
-            terms_of self.now visit.now.bodies.items ++ begun self.now visit.now.is_special
+        ensures bodies { IfOk result (λ v. numbered_terms self.now v.items ≡
+            numbered_terms self.now visit.now.bodies.items ++ begun self.now visit.now.is_special
             (tree_at self.now.nodes.now visit.now.term)
             self.now.rules.theory.now.derivatives) }
     {

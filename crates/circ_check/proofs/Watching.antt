@@ -33,7 +33,7 @@ use Rattle.circ_nodes.proofs.Located.{trees_later}
 use Rattle.circ_shared.specs.Patterns.{goal_at, IsPattern}
 use Rattle.circ_shared.specs.declared.patterns.Pattern.{Pattern}
 use Rattle.circ_shared.proofs.Sharing.{goals_later, patterns_later}
-use Rattle.circ_steps.specs.States.{state_at, shared_goals, IsGoalThere, IsStateThere, Extends}
+use Rattle.circ_steps.specs.States.{state_at, shared_goals, IsGoalThere, IsStateThere, AddsHypotheses}
 use Rattle.circ_steps.specs.declared.derivative.SharedDerivative.{SharedDerivative}
 use Rattle.circ_steps.specs.declared.states.SharedGoal.{SharedGoal}
 use Rattle.circ_steps.specs.declared.states.SharedState.{SharedState}
@@ -355,7 +355,7 @@ before_stays n H K gs h e = ap (take n) e ∙ take-append-le n H gs h
 
 module _ (k : Checker) (s : IsSound k.theory.now k) (b : k.is_begun ≡ true) (going : k.is_stopped ≡ false) (m : List Tree) (terms : List (ℕ × Tree))
     (t : SharedState) (g : Grows k.nodes m) (built : AreBuilt k.nodes terms) (there : IsStateThere m t)
-    (sorted : IsSortedState k.theory.now (state_at m t)) (added : Extends k.state.hyps.items t.hyps.items) where
+    (sorted : IsSortedState k.theory.now (state_at m t)) (added : AddsHypotheses k.state.hyps.items t.hyps.items) where
   -- a checker with other terms and another state, which has the hypotheses of earlier blocks
   moved_sound : (stopped : Bool) (tally : Tally) (lists : Vec (Vec Goal Global) Global)
       → IsSound k.theory.now (record k { nodes = m; terms = terms; state = t; is_stopped = stopped; tally = tally; derived = lists })

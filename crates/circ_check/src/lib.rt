@@ -1,8 +1,9 @@
 //! The checker of proofs: whether every certificate certifies what is due, and every step is an
 //! instance of its rule, and what the Derive steps of an accepted proof derived.
 //!
-//! [`check`] and [`derived`] take a whole proof, a [`Checker`] one that comes part by part. What
-//! accepted means is defined in circ_proof (`Accepted`), and circ_soundness says what it is worth.
+//! [`check`] and [`derived`] take a whole proof and go by its terms; a [`Checker`] takes one that
+//! comes part by part, and goes by the numbers of interned terms. What accepted means is defined in
+//! circ_proof (`Accepted`), and circ_soundness says what it is worth.
 #![tactic(auto)]
 
 mod checker;

@@ -1,5 +1,5 @@
 -- A store stays right when terms are added.
-use Rattle.std.proofs.Common.{◌≡◌, ℕ, List, refl}
+use Rattle.std.proofs.Common.{◌≡◌, ℕ, ◌≤◌, List, refl, arith}
 use Rattle.std.specs.List.{slice_get}
 use Rattle.std.specs.Option.{option_map_or}
 use Rattle.circ_term.specs.Tree.{Tree, depth_of}
@@ -12,7 +12,7 @@ use Rattle.circ_due.proofs.Later.{ready_later}
 use Rattle.circ_memo.specs.Keeping.{AreKept, Stays}
 use Rattle.circ_memo.specs.Settling.{AreLinked}
 use Rattle.circ_memo.specs.declared.parts.Step.{Step}
-use Rattle.circ_memo.specs.Working.{IsStore, Extends}
+use Rattle.circ_memo.specs.Working.{IsStore, Extends, HasWorked}
 use Rattle.circ_memo.specs.declared.store.Store.{Store}
 use Rattle.circ_memo.proofs.Forms.{kept_later}
 use Rattle.circ_memo.proofs.Telling.{stays_self, stays_on, are_linked_later, are_linked_stays}
@@ -42,7 +42,21 @@ pub are_linked_extends : (a b : Store) → Extends a b → (n : ℕ) (ps : List 
 are_linked_extends a b e n ps m h =
     are_linked_stays a.entries b.entries e.stays b.nodes n ps m (are_linked_later a.entries a.nodes b.nodes e.grows n ps m h)
 
--- the depth of the term of a number, for measures
+-- ---- work that has gone on
+
+pub worked_self : (m : Means) (s : Store) (k : ℕ) → IsStore m s → HasWorked m s s k k
+worked_self m s k h = record { store = h; extends = extends_self s; less = omega arith }
+
+-- terms were added last
+pub worked_later : (m : Means) (a b c : Store) (k l n : ℕ) → HasWorked m a b k l → Grows b.nodes c.nodes → c.entries ≡ b.entries → n ≤ l → HasWorked m a c k n
+worked_later m a b c k l n w g e h =
+    let x = w.less in
+    let same : Stays b.entries c.entries = rw e (stays_self b.entries) in
+    record { store = store_later m b c g e w.store; extends = extends_on a b c w.extends (extends_by b c g same); less = omega (arith, x, h) }
+
+-- ---- measures
+
+-- the depth of the term of a number
 abbrev pub depth_named : List Tree → ℕ → ℕ
 depth_named nodes n = option_map_or depth_of (slice_get nodes n) 0
 

@@ -1,5 +1,5 @@
 -- What the calls answer that normalise a term by itself, within bounds.
-use Rattle.std.specs.Prelude.{◌≡◌, ◌≤◌, ◌<◌, ℕ, ◌+◌, ◌-◌, List, [], ◌∷◌, length, Option, Some, None, Result, Ok, Err}
+use Rattle.std.specs.Prelude.{◌≡◌, ◌⊎◌, ◌≤◌, ◌<◌, ℕ, ◌+◌, ◌-◌, Bool, true, false, List, [], ◌∷◌, length, Option, Some, None, Result, Ok, Err}
 use Rattle.std.specs.List.{slice_get}
 use Rattle.circ_term.specs.Tree.{Tree, Trees, App, args_of, size_of, depth_of}
 use Rattle.circ_term.specs.Limits.{Big, Deep, node_limit, depth_limit, argument_limit}
@@ -30,6 +30,11 @@ pub record IsWithin (b : Bounds) (t : Tree) : Type 0 where
 -- so is the term of a number
 abbrev pub IsInside : List Tree → Bounds → (number : ℕ) → Type 0
 IsInside nodes b n = (t : Tree) × IsNamed nodes n t × IsWithin b t
+
+-- true: the term is past the bounds; false: it is not
+abbrev pub IsPastIf : Bounds → Tree → Bool → Type 0
+IsPastIf b t true = (b.big < size_of t) ⊎ (b.deep < depth_of t)
+IsPastIf b t false = (size_of t ≤ b.big) × (depth_of t ≤ b.deep)
 
 module _ (due : Tree → Option Replacement) (nodes : List Tree) (b : Bounds) where
   -- The fault says why t has no normal form within the bounds, with this left of the budget k; or memory ran out.

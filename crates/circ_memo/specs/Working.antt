@@ -1,5 +1,5 @@
 -- The state of a memo at work.
-use Rattle.std.specs.Prelude.{ℕ, List}
+use Rattle.std.specs.Prelude.{◌≤◌, ℕ, List}
 use Rattle.circ_term.specs.Growing.{Grows}
 use Rattle.circ_term.specs.Tree.{Tree}
 use Rattle.circ_nodes.specs.Built.{AreBuilt}
@@ -27,3 +27,9 @@ pub record IsAtWork (m : Means) (s : Store) (terms : List (ℕ × Tree)) : Type 
 pub record Extends (old new : Store) : Type 0 where
   pub grows : Grows old.nodes new.nodes
   pub stays : Stays old.entries new.entries
+
+-- the work has gone on: the store is right and extends the one before, and no more is left of the budget than there was
+pub record HasWorked (m : Means) (old new : Store) (budget left : ℕ) : Type 0 where
+  pub store : IsStore m new
+  pub extends : Extends old new
+  pub less : left ≤ budget

@@ -180,7 +180,8 @@ fn list_root(
     let Some(choice) = means.choose(nodes, ready)? else {
         unreachable!();
     };
-    let trace = means.trace(nodes, terms, &choice, path, next)?;
-    traces.push(trace)?;
+    let trace = means.trace(nodes, terms, &choice, path, next);
+    drop(choice);
+    traces.push(trace?)?;
     Ok(())
 }

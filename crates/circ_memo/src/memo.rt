@@ -1,6 +1,6 @@
 //! A memo of normal forms.
 ghost use Rattle.std.specs.Prelude.{◌≡◌, ◌+◌, ◌≤◌, ◌<◌, ◌^◌, [], ◌∷◌, ◌++◌, length};
-ghost use Rattle.std.specs.Prelude.{IfOk, OnOk, OnErr, map};
+ghost use Rattle.std.specs.Prelude.{IfOk, List, OnOk, OnErr, map};
 ghost use Rattle.std.specs.List.{AllByRecursion};
 ghost use Rattle.circ_term.specs.Tree.{Tree};
 ghost use Rattle.circ_theory.specs.Pairs.{plain_pair};
@@ -10,7 +10,7 @@ ghost use Rattle.circ_rewrite.specs.Plain.{Answers, plain_traces};
 ghost use Rattle.circ_term.specs.Growing.{Grows};
 ghost use Rattle.circ_nodes.specs.Built.{AreBuilt};
 ghost use Rattle.circ_nodes.specs.Named.{IsNamed};
-ghost use Rattle.circ_due.specs.Chosen.{due_by};
+ghost use Rattle.circ_due.specs.Chosen.{IsReady, due_by};
 ghost use Rattle.circ_memo.specs.Keeping.{IsForm, IsNumberKept};
 ghost use Rattle.circ_memo.specs.Value.{AnswersValue, AnswersKept};
 ghost use Rattle.circ_memo.specs.Working.{IsStore};
@@ -26,6 +26,7 @@ use circ_term::{MOST_DEPTH, MOST_NODES, Path, Term};
 use circ_theory::{Pair, Theory};
 use std::alloc::{AllocError, Global};
 use std::marker::Model;
+use std::mem;
 
 /// What terms are rewritten by, and the normal forms that were found. Contracts see a theory, rules
 /// and assumptions.
@@ -55,6 +56,25 @@ impl<'a> Model for Memo<'a> {
 
     ghost invariant = { λ a.
         IsAtWork a.work.value.means a.work.value.store a.work.value.terms };
+}
+
+impl Work<'_> {
+    // Forgets all normal forms and assumptions, and gives back what they took.
+    fn forget(&mut self)
+        ensures ready { (old new : List Tree) → IsReady old self.old.means
+            → IsReady new self.new.means }
+        ensures theory { self.new.means.theory.now ≡ self.old.means.theory.now }
+        ensures rules { self.new.means.rules.items ≡ self.old.means.rules.items }
+        ensures assumptions { self.new.means.assumptions ≡ [] }
+        ensures entries { self.new.store.entries ≡ [] }
+        ensures terms { (nodes : List Tree) → AreBuilt nodes self.new.terms }
+    {
+        self.means.forget();
+        let terms = Terms::new(self.store.alloc);
+        drop(mem::replace(&mut self.terms, terms));
+        let empty = Store::new(self.store.alloc);
+        drop(mem::replace(&mut self.store, empty));
+    }
 }
 
 impl<'a> Memo<'a> {
@@ -97,9 +117,7 @@ impl<'a> Memo<'a> {
         ensures { self.new ≡ record self.old { assumptions = [] } }
     {
         let work = &mut *self.work;
-        work.means.forget();
-        work.terms = Terms::new(work.store.alloc);
-        work.store = Store::new(work.store.alloc);
+        work.forget();
     }
 
     /// Puts a rule last, and forgets all normal forms and assumptions. If it runs out of memory the
@@ -115,9 +133,7 @@ impl<'a> Memo<'a> {
         ensures err { OnErr result (self.new ≡ record self.old { assumptions = [] }) }
     {
         let work = &mut *self.work;
-        work.means.forget();
-        work.terms = Terms::new(work.store.alloc);
-        work.store = Store::new(work.store.alloc);
+        work.forget();
         work.means.push(rule)
     }
 
@@ -240,7 +256,9 @@ fn listed(
 {
     let mut path = Path::new(store.alloc);
     let mut traces = Vec::new(store.alloc);
-    list(means, store, number, terms, &mut path, &mut traces)?;
+    let done = list(means, store, number, terms, &mut path, &mut traces);
+    drop(path);
+    done?;
     Ok(Normal {
         term: terms.term(&store.nodes, entry.value)?,
         traces,

@@ -35,6 +35,23 @@ pub fn normalise(
     ensures less { budget.new ≤ budget.old }
 {
     let mut memo = Memo::new(alloc, theory, share_rules(alloc, rules)?)?;
+    let normal = normal_under(&mut memo, assumptions, term, budget);
+    drop(memo);
+    normal
+}
+
+// The same by a memo of these rules.
+fn normal_under(
+    memo: &mut Memo<'_>,
+    assumptions: &[Pair],
+    term: &Term,
+    budget: &mut u64,
+) -> Result<Normal, RewriteFault>
+    requires { length assumptions.now < 2 ^ 32 }
+    ensures exact { Answers result budget.new (norm memo.old.theory.signature memo.old.rules
+        (map plain_pair assumptions.now) budget.old term.now) }
+    ensures less { budget.new ≤ budget.old }
+{
     memo.assume(assumptions)?;
     memo.normal(term, budget)
 }

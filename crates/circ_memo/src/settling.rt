@@ -1,5 +1,5 @@
 //! Normalising interned terms, each by itself: its arguments from the left, then the term.
-ghost use Rattle.std.specs.Prelude.{◌≡◌, ◌≤◌, ◌<◌, ◌^◌, ◌+◌, length};
+ghost use Rattle.std.specs.Prelude.{◌≡◌, ◌<◌, ◌^◌, ◌+◌, length};
 ghost use Rattle.std.specs.Prelude.{IfOk, OnOk};
 ghost use Rattle.circ_term.specs.Tree.{Tree};
 ghost use Rattle.circ_nodes.specs.Named.{IsNamed};
@@ -7,7 +7,7 @@ ghost use Rattle.circ_due.specs.Chosen.{due_by};
 ghost use Rattle.circ_memo.specs.Settling.{IsInside, IsPassing, Settles, Turns, FindsWay, Passes};
 ghost use Rattle.circ_memo.specs.Settling.{HasPassed, IsTurnKept};
 ghost use Rattle.circ_memo.specs.Keeping.{IsNumberKept, IsWayKept};
-ghost use Rattle.circ_memo.specs.Working.{IsStore, Extends};
+ghost use Rattle.circ_memo.specs.Working.{IsStore, HasWorked};
 
 use crate::advancing::advance;
 use crate::keeping::{keep_settled, keep_steps};
@@ -27,9 +27,7 @@ pub(crate) fn settle(
     requires store { IsStore means.now store.old }
     requires inside { IsInside store.old.nodes bounds number }
     requires fits { budget.old < 2 ^ 64 }
-    ensures store { IsStore means.now store.new }
-    ensures extends { Extends store.old store.new }
-    ensures less { budget.new ≤ budget.old }
+    ensures worked { HasWorked means.now store.old store.new budget.old budget.new }
     ensures settles { (t : Tree) → IsNamed store.old.nodes number t
         → Settles (due_by means.now) store.new.nodes bounds budget.old budget.new t result }
     ensures there { IfOk result (λ e. IsNumberKept store.new.entries number e.count) }
@@ -38,7 +36,10 @@ pub(crate) fn settle(
     let mut here = number;
     loop {
         match turn(means, store, here, bounds, budget) {
-            Err(stop) => return Err(stop),
+            Err(stop) => {
+                drop(steps);
+                return Err(stop);
+            }
             Ok(Turn::Settled(last)) => return Ok(keep_steps(store, steps, last)?),
             Ok(Turn::Stepped(step)) => {
                 steps.push(step)?;
@@ -60,9 +61,7 @@ fn turn(
     requires store { IsStore means.now store.old }
     requires inside { IsInside store.old.nodes bounds here }
     requires fits { budget.old < 2 ^ 64 }
-    ensures store { IsStore means.now store.new }
-    ensures extends { Extends store.old store.new }
-    ensures less { budget.new ≤ budget.old }
+    ensures worked { HasWorked means.now store.old store.new budget.old budget.new }
     ensures turns { (t : Tree) → IsNamed store.old.nodes here t
         → Turns (due_by means.now) store.new.nodes bounds budget.old budget.new t result }
     ensures kept { IfOk result (IsTurnKept store.new.nodes store.new.entries here) }
@@ -94,9 +93,7 @@ fn settle_args(
     requires store { IsStore means.now store.old }
     requires inside { IsInside store.old.nodes bounds here }
     requires fits { budget.old < 2 ^ 64 }
-    ensures store { IsStore means.now store.new }
-    ensures extends { Extends store.old store.new }
-    ensures less { budget.new ≤ budget.old }
+    ensures worked { HasWorked means.now store.old store.new budget.old budget.new }
     ensures finds { (t : Tree) → IsNamed store.old.nodes here t
         → FindsWay (due_by means.now) store.new.nodes bounds budget.old budget.new t result }
     ensures kept { (t : Tree) → IsNamed store.old.nodes here t → IfOk result
@@ -114,7 +111,10 @@ fn settle_args(
     for place in 0..len {
         match settle_arg(means, store, &mut passing, place, bounds, budget) {
             Ok(()) => {}
-            Err(stop) => return Err(stop),
+            Err(stop) => {
+                drop(passing);
+                return Err(stop);
+            }
         }
     }
     passing.finish(&mut store.nodes, here)
@@ -135,9 +135,7 @@ fn settle_arg(
         × IsPassing (due_by means.now) store.old.nodes bounds t place passing.old }
     requires place { place < length passing.old.args.items }
     requires count { budget.old + passing.old.count < 2 ^ 64 }
-    ensures store { IsStore means.now store.new }
-    ensures extends { Extends store.old store.new }
-    ensures less { budget.new ≤ budget.old }
+    ensures worked { HasWorked means.now store.old store.new budget.old budget.new }
     ensures passes { (t : Tree)
         → IsPassing (due_by means.now) store.old.nodes bounds t place passing.old
         → Passes (due_by means.now) store.new.nodes bounds (budget.old + passing.old.count)

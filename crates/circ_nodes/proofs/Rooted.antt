@@ -1,21 +1,19 @@
 -- Terms are found by their roots.
-use Rattle.std.specs.Prelude.{◌≡◌, ℕ, ◌<◌, ◌≤◌, Bool, true, false, if◌then◌else◌, List, [], ◌∷◌, ◌++◌, length, Some, None, refl}
-use Rattle.std.specs.List.{slice_get, list_any, position, position_or_len}
+use Rattle.std.specs.Prelude.{◌≡◌, ℕ, ◌<◌, ◌≤◌, List, [], ◌∷◌, ◌++◌, length, Some, None, refl}
+use Rattle.std.specs.List.{slice_get}
 use Rattle.std.proofs.Common.{ap, sym, subst, ◌∙◌, arith, get_or, length-append, take, min, ◌⊎◌, inl, inr}
 use Rattle.std.proofs.lemmas.List.{length-take}
 use Rattle.std.proofs.lemmas.Option.{slice_get_within, slice_get_read}
 use Rattle.circ_term.specs.Tree.{Tree, Trees, Var, App, none, more, args_of}
 use Rattle.circ_term.specs.Limits.{argument_limit}
-use Rattle.circ_nodes.specs.declared.nodes.Root.{Root}
-use Rattle.circ_nodes.specs.declared.nodes.Weight.{Weight}
-use Rattle.circ_nodes.specs.contracts.nodes.RootPartialEq.TheImpl.{eq-value}
+use Rattle.circ_nodes.specs.declared.rows.Weight.{Weight}
 use Rattle.circ_term.specs.Growing.{Grows}
 use Rattle.circ_nodes.specs.Named.{IsNamed, AreNamed, IsOnce}
 use Rattle.std.specs.List.{AllByRecursion}
-use Rattle.circ_nodes.specs.Roots.{PlainRoot, variable, application, plain_root, arguments, HasRoot, HasWeight, Finds, IsKept}
+use Rattle.circ_nodes.specs.Rows.{PlainRoot, variable, application, arguments}
+use Rattle.circ_nodes.specs.Roots.{HasRoot, HasWeight, Finds, IsKept}
 use Rattle.circ_nodes.proofs.Numbers.{named_below, there_named, are_named_one, are_named_length, are_named_later, all_below}
-use Rattle.circ_nodes.proofs.Places.{get_there, any_at, any_place, position_place, get_last, taken_get, get_taken}
-use Rattle.circ_nodes.proofs.Same.{test_right, test_whole}
+use Rattle.circ_nodes.proofs.Places.{get_there, get_last, taken_get, get_taken}
 
 -- a term has one root, and a root is that of one term
 
@@ -63,15 +61,15 @@ root_later old new (application f s ns) t g h = (h.0, h.1, are_named_later old n
 
 -- what the look-up of a root answers
 
-module _ {nodes : List Tree} {roots : List Root} {weights : List Weight} (k : IsKept nodes roots weights) where
-  pub root_at : (n : ℕ) (t : Tree) → IsNamed nodes n t → (r : Root) × (slice_get roots n ≡ Some r) × HasRoot nodes (plain_root r) t
+module _ {nodes : List Tree} {roots : List PlainRoot} {weights : List Weight} (k : IsKept nodes roots weights) where
+  pub root_at : (n : ℕ) (t : Tree) → IsNamed nodes n t → (r : PlainRoot) × (slice_get roots n ≡ Some r) × HasRoot nodes r t
   root_at n t h =
       let b = named_below nodes n t h in
       let r = get_there roots n (omega (arith, b, k.long)) in
       (r.0, r.1, k.rooted n r.0 t r.1 h)
 
   -- the root that is read beside a term
-  pub root_read : (n : ℕ) (t : Tree) (r : Root) → IsNamed nodes n t → r ≡ get_or roots n r → HasRoot nodes (plain_root r) t
+  pub root_read : (n : ℕ) (t : Tree) (r : PlainRoot) → IsNamed nodes n t → r ≡ get_or roots n r → HasRoot nodes r t
   root_read n t r h e =
       let b = named_below nodes n t h in
       k.rooted n r t (slice_get_read roots (length roots) n r refl (omega (arith, b, k.long)) e) h
@@ -82,42 +80,24 @@ module _ {nodes : List Tree} {roots : List Root} {weights : List Weight} (k : Is
       let b = named_below nodes n t h in
       k.weighs n w t (slice_get_read weights (length weights) n w refl (omega (arith, b, k.weighted)) e) h
 
-  pub arguments_read : (n : ℕ) (r : Root) → n < length nodes → r ≡ get_or roots n r → AllByRecursion (λ m. m < n) (arguments (plain_root r))
+  pub arguments_read : (n : ℕ) (r : PlainRoot) → n < length nodes → r ≡ get_or roots n r → AllByRecursion (λ m. m < n) (arguments r)
   arguments_read n r b e = k.before n r (slice_get_read roots (length roots) n r refl (omega (arith, b, k.long)) e)
 
-  module _ (r : Root) (t : Tree) (root : HasRoot nodes (plain_root r) t) where
-    -- an equal root stands beside the term
-    same_root : (n : ℕ) (s : Root) → slice_get roots n ≡ Some s → eq-value.it r s ≡ true → IsNamed nodes n t
-    same_root n s e h =
-        let b = slice_get_within roots n s e in
+  module _ (r : PlainRoot) (t : Tree) (root : HasRoot nodes r t) where
+    -- a number with this root is that of the term
+    pub found : (n : ℕ) → slice_get roots n ≡ Some r → IsNamed nodes n t
+    found n e =
+        let b = slice_get_within roots n r e in
         let there = there_named nodes n (omega (arith, b, k.long)) in
-        let P : PlainRoot → Type 0 = λ p. HasRoot nodes p t in
         let Q : Tree → Type 0 = IsNamed nodes n in
-        let one = root_of_one nodes (plain_root s) there.0 t (k.rooted n s there.0 e there.1) (subst P (test_right r s h) root) in
-        subst Q one there.1
+        subst Q (root_of_one nodes r there.0 t (k.rooted n r there.0 e there.1) root) there.1
 
-    pub found : (n : ℕ) → position (eq-value.it r) roots ≡ Some n → list_any (eq-value.it r) roots ≡ true → Finds nodes t (Some n)
-    found n e h =
-        let p = any_place (eq-value.it r) roots h in
-        same_root n p.0 (ap (slice_get roots) (position_place (eq-value.it r) roots n e) ∙ p.1) p.2
-
-    pub not_found : list_any (eq-value.it r) roots ≡ false → Finds nodes t None
+    -- the term has no number where its root has none
+    pub not_found : ((n : ℕ) → slice_get roots n ≡ Some r → ⊥) → Finds nodes t None
     not_found h n e =
         let s = root_at n t e in
-        let same = root_once nodes k.once (plain_root r) (plain_root s.0) t root s.2 in
-        let any = any_at (eq-value.it r) roots n s.0 s.1 (test_whole r s.0 same) in
-        absurd (cc)
-
-    not_any : Finds nodes t None → list_any (eq-value.it r) roots ≡ false
-    not_any h = go (list_any (eq-value.it r) roots) refl
-      where
-        go : (b : Bool) → list_any (eq-value.it r) roots ≡ b → b ≡ false
-        go true e = let p = any_place (eq-value.it r) roots e in absurd (h (position_or_len (eq-value.it r) roots) (same_root _ p.0 p.1 p.2))
-        go false e = refl
-
-    pub root_put : {new : List Root} → Finds nodes t None → new ≡ (if list_any (eq-value.it r) roots then roots else roots ++ r ∷ [])
-        → new ≡ roots ++ r ∷ []
-    root_put h e = e ∙ ap (λ b. if b then roots else roots ++ r ∷ []) (not_any h)
+        let same = root_once nodes k.once r s.0 t root s.2 in
+        absurd (h n (s.1 ∙ ap Some (sym same)))
 
     -- the new term goes last
     pub kept_push : (w : Weight) → HasWeight w t → Finds nodes t None → length nodes < 4294967295 → IsKept (nodes ++ t ∷ []) (roots ++ r ∷ []) (weights ++ w ∷ [])
@@ -141,26 +121,26 @@ module _ {nodes : List Tree} {roots : List Root} {weights : List Weight} (k : Is
             let Q : Tree → Type 0 = λ x. HasWeight w x in
             subst P g.1 (subst Q h.1 own)
 
-        before : (n : ℕ) (s : Root) → (slice_get roots n ≡ Some s) ⊎ ((n ≡ length roots) × (r ≡ s)) → AllByRecursion (λ m. m < n) (arguments (plain_root s))
+        before : (n : ℕ) (s : PlainRoot) → (slice_get roots n ≡ Some s) ⊎ ((n ≡ length roots) × (r ≡ s)) → AllByRecursion (λ m. m < n) (arguments s)
         before n s (inl g) = k.before n s g
         before n s (inr g) =
             let same : length nodes ≡ n = sym (g.0 ∙ k.long) in
-            let P : ℕ → Type 0 = λ x. AllByRecursion (λ m. m < x) (arguments (plain_root r)) in
-            let Q : Root → Type 0 = λ x. AllByRecursion (λ m. m < n) (arguments (plain_root x)) in
-            subst Q g.1 (subst P same (root_below nodes (plain_root r) t root))
+            let P : ℕ → Type 0 = λ x. AllByRecursion (λ m. m < x) (arguments r) in
+            let Q : PlainRoot → Type 0 = λ x. AllByRecursion (λ m. m < n) (arguments x) in
+            subst Q g.1 (subst P same (root_below nodes r t root))
 
         later : (p : PlainRoot) (u : Tree) → HasRoot nodes p u → HasRoot (nodes ++ t ∷ []) p u
         later p u h = root_later nodes (nodes ++ t ∷ []) p u (t ∷ [], refl) h
 
-        rooted : (n : ℕ) (s : Root) (u : Tree) → (slice_get roots n ≡ Some s) ⊎ ((n ≡ length roots) × (r ≡ s))
-            → IsNamed nodes n u ⊎ ((n ≡ length nodes) × (t ≡ u)) → HasRoot (nodes ++ t ∷ []) (plain_root s) u
-        rooted n s u (inl g) (inl h) = later (plain_root s) u (k.rooted n s u g h)
+        rooted : (n : ℕ) (s : PlainRoot) (u : Tree) → (slice_get roots n ≡ Some s) ⊎ ((n ≡ length roots) × (r ≡ s))
+            → IsNamed nodes n u ⊎ ((n ≡ length nodes) × (t ≡ u)) → HasRoot (nodes ++ t ∷ []) s u
+        rooted n s u (inl g) (inl h) = later s u (k.rooted n s u g h)
         rooted n s u (inl g) (inr h) = let b = slice_get_within roots n s g in absurd (omega (arith, b, k.long, h.0))
         rooted n s u (inr g) (inl h) = let b = named_below nodes n u h in absurd (omega (arith, b, k.long, g.0))
         rooted n s u (inr g) (inr h) =
-            let P : Root → Type 0 = λ x. HasRoot (nodes ++ t ∷ []) (plain_root x) u in
-            let Q : Tree → Type 0 = λ x. HasRoot (nodes ++ t ∷ []) (plain_root r) x in
-            subst P g.1 (subst Q h.1 (later (plain_root r) t root))
+            let P : PlainRoot → Type 0 = λ x. HasRoot (nodes ++ t ∷ []) x u in
+            let Q : Tree → Type 0 = λ x. HasRoot (nodes ++ t ∷ []) r x in
+            subst P g.1 (subst Q h.1 (later r t root))
 
         absent : (n : ℕ) (u : Tree) → IsNamed nodes n u → t ≡ u → ⊥
         absent n u h same = fresh n (h ∙ ap Some (sym same))
@@ -189,7 +169,7 @@ module _ {nodes : List Tree} {roots : List Root} {weights : List Weight} (k : Is
     rooted = λ n r t g h.
         let a = taken_get roots c n r g in
         let b = taken_get nodes c n t h in
-        kept_root c (plain_root r) t n a.1 (k.before n r a.0) (k.rooted n r t a.0 b.0);
+        kept_root c r t n a.1 (k.before n r a.0) (k.rooted n r t a.0 b.0);
     once = λ n m t g h. k.once n m t (taken_get nodes c n t g).0 (taken_get nodes c m t h).0;
     before = λ n r g. k.before n r (taken_get roots c n r g).0;
     weighted = length-take c weights ∙ ap (min c) k.weighted ∙ sym (length-take c nodes);

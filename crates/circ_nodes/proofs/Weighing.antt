@@ -7,7 +7,7 @@ use Rattle.circ_term.proofs.Limits.{within_limits, limit_at_none}
 use Rattle.circ_nodes.specs.Named.{AreNamed, tree_at}
 use Rattle.circ_nodes.specs.Roots.{HasWeight, AreMeasures}
 use Rattle.circ_nodes.specs.declared.nodes.Measures.{Measures}
-use Rattle.circ_nodes.specs.declared.nodes.Weight.{Weight}
+use Rattle.circ_nodes.specs.declared.rows.Weight.{Weight}
 use Rattle.circ_nodes.proofs.Located.{trees_named}
 
 pub weight_small : (w : Weight) (t : Tree) → HasWeight w t → (w.size ≤ node_limit) × (w.depth ≤ depth_limit)

@@ -5,24 +5,10 @@ use Rattle.circ_term.specs.Tree.{Tree, Trees, Var, App, trees_of, size_of, depth
 use Rattle.circ_term.specs.Limits.{argument_limit, first_limit, first_limits, IsWithinLimits, Names}
 use Rattle.circ_term.specs.declared.fault.TermFault.{TermFault}
 use Rattle.circ_nodes.specs.Named.{IsNamed, AreNamed, IsOnce, tree_at}
-use Rattle.circ_nodes.specs.declared.nodes.Root.{Root}
-use Rattle.circ_nodes.specs.declared.nodes.Root.TheVariants as root
 use Rattle.circ_nodes.specs.declared.nodes.Measures.{Measures}
-use Rattle.circ_nodes.specs.declared.nodes.Weight.{Weight}
-
--- a root as plain data
-pub data PlainRoot : Type 0 where
-  variable : (number sort : ℕ) → PlainRoot
-  application : (op sort : ℕ) (args : List ℕ) → PlainRoot
-
-abbrev pub plain_root : Root → PlainRoot
-plain_root (root.Variable number sort) = variable number sort
-plain_root (root.Application op sort args) = application op sort args.items
-
--- the numbers of the arguments
-abbrev pub arguments : PlainRoot → List ℕ
-arguments (variable number sort) = []
-arguments (application op sort args) = args
+use Rattle.circ_nodes.specs.declared.rows.Rows.{Rows}
+use Rattle.circ_nodes.specs.declared.rows.Weight.{Weight}
+use Rattle.circ_nodes.specs.Rows.{PlainRoot, variable, application, arguments, roots, weights, IsLaid, root_key}
 
 -- the term with this root
 abbrev pub root_tree : (nodes : List Tree) → PlainRoot → Tree
@@ -30,12 +16,12 @@ root_tree nodes (variable number sort) = Var number sort
 root_tree nodes (application op sort args) = App op sort (trees_of (map (tree_at nodes) args))
 
 -- the terms, and behind them those with these roots
-abbrev pub trees_behind : (nodes : List Tree) → List Root → List Tree
+abbrev pub trees_behind : (nodes : List Tree) → List PlainRoot → List Tree
 trees_behind nodes [] = nodes
-trees_behind nodes (r ∷ rs) = trees_behind (nodes ++ root_tree nodes (plain_root r) ∷ []) rs
+trees_behind nodes (r ∷ rs) = trees_behind (nodes ++ root_tree nodes r ∷ []) rs
 
 -- the terms with these roots
-abbrev pub trees_with : List Root → List Tree
+abbrev pub trees_with : List PlainRoot → List Tree
 trees_with roots = trees_behind [] roots
 
 -- the term has this root, and its arguments are there
@@ -68,11 +54,17 @@ Weighs (Ok w) t = HasWeight w t
 Weighs (Err e) t = Names e (first_limit t)
 
 -- each term is there once, after its arguments, and beside it its root and its weight
-pub record IsKept (nodes : List Tree) (roots : List Root) (weights : List Weight) : Type 0 where
+pub record IsKept (nodes : List Tree) (roots : List PlainRoot) (weights : List Weight) : Type 0 where
   pub few : length nodes < 2 ^ 32
   pub long : length roots ≡ length nodes
-  pub rooted : (n : ℕ) (r : Root) (t : Tree) → slice_get roots n ≡ Some r → IsNamed nodes n t → HasRoot nodes (plain_root r) t
+  pub rooted : (n : ℕ) (r : PlainRoot) (t : Tree) → slice_get roots n ≡ Some r → IsNamed nodes n t → HasRoot nodes r t
   pub once : IsOnce nodes
-  pub before : (n : ℕ) (r : Root) → slice_get roots n ≡ Some r → AllByRecursion (λ m. m < n) (arguments (plain_root r))
+  pub before : (n : ℕ) (r : PlainRoot) → slice_get roots n ≡ Some r → AllByRecursion (λ m. m < n) (arguments r)
   pub weighted : length weights ≡ length nodes
   pub weighs : (n : ℕ) (w : Weight) (t : Tree) → slice_get weights n ≡ Some w → IsNamed nodes n t → HasWeight w t
+
+-- the terms of these rows are kept, and their roots are found by these keys
+pub record AreTerms (l : Rows) (keys : List ℕ) : Type 0 where
+  pub rows : IsLaid l
+  pub kept : IsKept (trees_with (roots l)) (roots l) (weights l)
+  pub keyed : keys ≡ map root_key (roots l)

@@ -10,31 +10,18 @@ ghost use Rattle.circ_term.specs.Growing.{Grows};
 ghost use Rattle.circ_nodes.specs.Named.{IsNamed, AreNamed, IsOnce, HasShape, Interns, tree_at};
 ghost use Rattle.circ_nodes.specs.Named.{Enters, AddsOnly, IsPart, IsPartOfSome};
 ghost use Rattle.circ_nodes.specs.Named.{arguments_of, Points};
-ghost use Rattle.circ_nodes.specs.Roots.{HasRoot, Finds, HasWeight, AreMeasures, Weighs, plain_root};
+ghost use Rattle.circ_nodes.specs.Roots.{HasRoot, Finds, HasWeight, AreMeasures, Weighs};
+ghost use Rattle.circ_nodes.specs.Rows.{plain_root, root_key};
 
 use crate::Numbers;
+use crate::rows::{Rows, Weight, key_of};
+use circ_hash_chains::HashChains;
 use circ_term::{Kind, MOST_ARGS, MOST_DEPTH, MOST_NODES, Term, TermFault};
-use indexmap::IndexSet;
 use std::alloc::{AllocError, Global};
 use std::marker::Model;
 
 // The most terms, so that each has a number that is a `u32`.
 const MOST_TERMS: usize = 4_294_967_295;
-
-// What a term is looked up by: its root, with the numbers of its arguments.
-#[derive(PartialEq, Eq, Hash, Drop)]
-enum Root {
-    Variable { number: u32, sort: u32 },
-    Application { op: u32, sort: u32, args: Numbers },
-}
-
-// What is kept of a term beside its root.
-#[derive(Clone, Copy)]
-struct Weight {
-    size: u32,
-    depth: u16,
-    is_ground: bool,
-}
 
 // The sizes of some terms together, the depth of the deepest, and whether none has a variable.
 #[derive(Clone, Copy)]
@@ -44,14 +31,15 @@ struct Measures {
     are_ground: bool,
 }
 
-/// Terms by number. Each is there once, and its arguments are there too. A call that would add one
-/// more than 4,294,967,295 answers want of memory.
+/// Terms by number. Each is there once, and its arguments are there too. A term is kept in 20 bytes
+/// and 4 for each argument, and 12 to 16 by which it is found. A call that would add one more than
+/// 4,294,967,295, or would have more than 4,294,967,295 arguments kept, answers want of memory.
 #[derive(Drop)]
 pub struct Nodes {
     alloc: Global,
-    // The terms' roots, in their order.
-    roots: IndexSet<Root>,
-    weights: Vec<Weight>,
+    rows: Rows,
+    // The keys of the roots, by number.
+    chains: HashChains,
 }
 
 impl Model for Nodes {
@@ -64,11 +52,12 @@ impl Model for Nodes {
 
     ghost coded = { coded_list tree_code };
 
-    ghost use Rattle.circ_nodes.specs.Roots.{IsKept, trees_with};
+    ghost use Rattle.circ_nodes.specs.Rows.{roots};
+    ghost use Rattle.circ_nodes.specs.Roots.{trees_with, AreTerms};
 
-    ghost view = { λ a. trees_with a.roots.keys };
+    ghost view = { λ a. trees_with (roots a.rows) };
 
-    ghost invariant = { λ a. IsKept (trees_with a.roots.keys) a.roots.keys a.weights.items };
+    ghost invariant = { λ a. AreTerms a.rows a.chains };
 }
 
 /// A term taken apart by one node, with the numbers of its arguments.
@@ -87,8 +76,8 @@ impl Nodes {
     {
         Nodes {
             alloc,
-            roots: IndexSet::new(alloc),
-            weights: Vec::new(alloc),
+            rows: Rows::new(alloc),
+            chains: HashChains::new(alloc),
         }
     }
 
@@ -96,7 +85,7 @@ impl Nodes {
     pub fn len(&self) -> usize
         ensures { result ≡ length self.now }
     {
-        self.weights.len()
+        self.rows.rows.len()
     }
 
     /// Does nothing. Its contract is the law that each term has one number, which is a `u32`.
@@ -104,7 +93,7 @@ impl Nodes {
         ensures once { IsOnce self.now }
         ensures few { length self.now < 2 ^ 32 }
     {
-        let _ = &self.weights;
+        let _ = &self.rows;
     }
 
     /// Does nothing. Its contract is the law that the term of a number is within the limits.
@@ -121,7 +110,7 @@ impl Nodes {
         requires { number < length self.now }
         ensures { HasWeight result (tree_at self.now number) }
     {
-        self.weights[number as usize]
+        self.rows.weight(number)
     }
 
     /// The number of nodes of the term of a number, counted as a tree.
@@ -169,17 +158,7 @@ impl Nodes {
             → length (args_of t) ≤ MOST_ARGS }
         ensures before { AllByRecursion (λ m. m < number) (arguments_of result) }
     {
-        match &self.roots.as_slice()[number as usize] {
-            Root::Variable { number, sort } => Shape::Variable {
-                number: *number,
-                sort: *sort,
-            },
-            Root::Application { op, sort, args } => Shape::Application {
-                op: *op,
-                sort: *sort,
-                args: args.as_slice(),
-            },
-        }
+        self.rows.shape(number)
     }
 
     /// The number of an argument of the term of a number.
@@ -219,8 +198,8 @@ impl Nodes {
     pub fn cut(&mut self, count: usize)
         ensures { self.new ≡ take count self.old }
     {
-        self.weights.truncate(count);
-        self.roots.truncate(count);
+        self.rows.truncate(count);
+        self.chains.truncate(count);
     }
 
     /// The number of a variable. After want of memory the terms are as before.
@@ -230,7 +209,7 @@ impl Nodes {
         ensures enters { OnOk result (Enters self.old self.new (Var number sort)) }
         ensures err { OnErr result (self.new ≡ self.old) }
     {
-        self.enter(Root::Variable { number, sort }, &Term::var(number, sort))
+        self.enter(Shape::Variable { number, sort }, &Term::var(number, sort))
     }
 
     /// The number of an operator on the terms of these numbers. Costs as much as there are
@@ -245,13 +224,28 @@ impl Nodes {
             → OnOk result (Enters self.old self.new (App op sort ts)) }
         ensures err { OnErr result (self.new ≡ self.old) }
     {
-        let root = Root::Application { op, sort, args };
-        if let Some(number) = self.find(&root) {
+        self.apply(op, sort, args.as_slice())
+    }
+
+    // The number of an operator on the terms of these numbers.
+    fn apply(&mut self, op: u32, sort: u32, args: &[u32]) -> Result<u32, TermFault>
+        requires few { length args.now ≤ MOST_ARGS }
+        requires there { AllByRecursion (λ n. n < length self.old) args.now }
+        ensures grows { Grows self.old self.new }
+        ensures interns { (ts : Trees) → AreNamed self.old args.now ts
+            → Interns self.new result (App op sort ts) }
+        ensures enters { (ts : Trees) → AreNamed self.old args.now ts
+            → OnOk result (Enters self.old self.new (App op sort ts)) }
+        ensures err { OnErr result (self.new ≡ self.old) }
+    {
+        let root = Shape::Application { op, sort, args };
+        let key = key_of(root);
+        if let Some(number) = self.find(root, key) {
             self.known_at(number);
             return Ok(number);
         }
-        match self.weigh(&root) {
-            Ok(weight) => Ok(self.put(root, weight)?),
+        match self.weigh(root) {
+            Ok(weight) => Ok(self.put(root, key, weight)?),
             Err(fault) => Err(fault),
         }
     }
@@ -265,10 +259,11 @@ impl Nodes {
         ensures named { IfOk result (λ n. IsNamed self.new n term.now) }
     {
         match term.kind() {
-            Kind::Variable { number, sort } => self.enter(Root::Variable { number, sort }, term),
+            Kind::Variable { number, sort } => self.enter(Shape::Variable { number, sort }, term),
             Kind::Application { op, sort, args } => {
                 let args = self.intern_all(args)?;
-                self.enter(Root::Application { op, sort, args }, term)
+                let args = args.as_slice();
+                self.enter(Shape::Application { op, sort, args }, term)
             }
         }
     }
@@ -287,36 +282,44 @@ impl Nodes {
     }
 
     // The number of the term with this root. The term goes last where it is new.
-    fn enter(&mut self, root: Root, term: &Term) -> Result<u32, AllocError>
+    fn enter(&mut self, root: Shape<'_>, term: &Term) -> Result<u32, AllocError>
         requires { HasRoot self.old (plain_root root) term.now }
         ensures grows { Grows self.old self.new }
         ensures named { IfOk result (λ n. IsNamed self.new n term.now) }
         ensures enters { OnOk result (Enters self.old self.new term.now) }
         ensures err { OnErr result (self.new ≡ self.old) }
     {
-        match self.find(&root) {
+        let key = key_of(root);
+        match self.find(root, key) {
             Some(number) => Ok(number),
-            None => self.put(root, weight_of(term)),
+            None => self.put(root, key, weight_of(term)),
         }
     }
 
-    // The number of the term with this root.
-    fn find(&self, root: &Root) -> Option<u32>
-        ensures { (t : Tree) → HasRoot self.now (plain_root root.now) t
+    // The number of the term with this root, which has this key.
+    fn find(&self, root: Shape<'_>, key: u32) -> Option<u32>
+        requires { key ≡ root_key (plain_root root) }
+        ensures { (t : Tree) → HasRoot self.now (plain_root root.entry) t
             → Finds self.now t result }
     {
-        let place = self.roots.get_index_of(root)?;
-        Some(place as u32)
+        let mut next = self.chains.newest(key);
+        while let Some(number) = next {
+            if self.rows.is_at(number, root) {
+                return Some(number);
+            }
+            next = self.chains.older(number);
+        }
+        None
     }
 
     // What is to be kept of the term with this root, where it is within the limits.
-    fn weigh(&self, root: &Root) -> Result<Weight, TermFault>
-        requires { (t : Tree) × HasRoot self.now (plain_root root.now) t }
-        ensures { (t : Tree) → HasRoot self.now (plain_root root.now) t → Weighs result t }
+    fn weigh(&self, root: Shape<'_>) -> Result<Weight, TermFault>
+        requires { (t : Tree) × HasRoot self.now (plain_root root) t }
+        ensures { (t : Tree) → HasRoot self.now (plain_root root.entry) t → Weighs result t }
     {
         match root {
-            Root::Variable { .. } => Ok(VARIABLE),
-            Root::Application { args, .. } => weight_above(self.measure(args.as_slice())),
+            Shape::Variable { .. } => Ok(VARIABLE),
+            Shape::Application { args, .. } => weight_above(self.measure(args)),
         }
     }
 
@@ -344,15 +347,17 @@ impl Nodes {
         }
     }
 
-    // The new term goes last, where there is room.
-    fn put(&mut self, root: Root, weight: Weight) -> Result<u32, AllocError>
+    // The new term goes last, where there is room. Its root has this key.
+    fn put(&mut self, root: Shape<'_>, key: u32, weight: Weight) -> Result<u32, AllocError>
         requires root { (t : Tree) × HasRoot self.old (plain_root root) t }
-        requires fresh { (t : Tree) → HasRoot self.old (plain_root root) t → Finds self.old t None }
+        requires key { key ≡ root_key (plain_root root) }
+        requires fresh { (t : Tree) → HasRoot self.old (plain_root root) t
+            → Finds self.old t None }
         requires weight { (t : Tree) → HasRoot self.old (plain_root root) t → HasWeight weight t }
         ensures grows { Grows self.old self.new }
-        ensures named { (t : Tree) → HasRoot self.old (plain_root root) t
+        ensures named { (t : Tree) → HasRoot self.old (plain_root root.entry) t
             → IfOk result (λ n. IsNamed self.new n t) }
-        ensures put { (t : Tree) → HasRoot self.old (plain_root root) t
+        ensures put { (t : Tree) → HasRoot self.old (plain_root root.entry) t
             → OnOk result (self.new ≡ self.old ++ t ∷ []) }
         ensures err { OnErr result (self.new ≡ self.old) }
     {
@@ -360,9 +365,11 @@ impl Nodes {
         if number >= MOST_TERMS {
             return Err(AllocError);
         }
-        self.weights.reserve(1)?;
-        self.roots.insert(root)?;
-        self.weights.push_reserved(weight);
+        self.chains.push(key)?;
+        if let Err(fault) = self.rows.push(root, weight) {
+            self.chains.truncate(number);
+            return Err(fault);
+        }
         Ok(number as u32)
     }
 }

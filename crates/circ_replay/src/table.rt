@@ -1,35 +1,17 @@
 //! The table of a proof that is being written.
-ghost use Rattle.std.specs.Prelude.{◌≡◌, ◌≤◌, [], length, take, Some, IfOk};
-ghost use Rattle.std.specs.List.{slice_get};
+ghost use Rattle.std.specs.Prelude.{◌≡◌, ◌≤◌, ◌++◌, ◌∷◌, [], length, take, true, Some, IfOk};
+ghost use Rattle.std.specs.List.{slice_get, AllByRecursion};
 ghost use Rattle.std.specs.Option.{IfSome};
-ghost use Rattle.circ_term.specs.Tree.{trees_of};
-ghost use Rattle.circ_proof.specs.Table.{IsTable, Numbers, added, entered, term_limit};
-ghost use Rattle.circ_replay.specs.Growing.{NumbersSoFar, NumbersAllSoFar, Puts};
-ghost use Rattle.circ_replay.specs.Roots.{HasRoot, plain_root};
+ghost use Rattle.circ_term.specs.Tree.{args_of, trees_of};
+ghost use Rattle.circ_proof.specs.Table.{IsTable, IsNext, Numbers, added, entered, has, term_limit};
+ghost use Rattle.circ_replay.specs.Growing.{NumbersSoFar, AddsAllSoFar};
+ghost use Rattle.circ_replay.specs.Fingerprints.{Finds, IsKeyed};
 
+use circ_hash_chains::HashChains;
 use circ_proof::MOST_TERMS;
-use circ_term::{Kind, Term};
-use indexmap::IndexSet;
-use smallvec::SmallVec;
+use circ_term::Term;
 use std::alloc::{AllocError, Global};
 use std::marker::Model;
-
-// Numbers of arguments. Few need no memory of their own.
-type ArgumentNumbers = SmallVec<u32, 4>;
-
-// What a term is looked up by: its root, with the numbers of its arguments.
-#[derive(PartialEq, Eq, Hash, Drop)]
-enum Root {
-    Variable {
-        number: u32,
-        sort: u32,
-    },
-    Application {
-        op: u32,
-        sort: u32,
-        args: ArgumentNumbers,
-    },
-}
 
 /// The terms of a proof, each of which is there once and after its arguments. A term's number is
 /// its place.
@@ -37,8 +19,8 @@ enum Root {
 pub struct TableBuilder {
     alloc: Global,
     terms: Vec<Term>,
-    // The terms' roots, in the same order.
-    roots: IndexSet<Root>,
+    // The terms' fingerprints, in the same order.
+    chains: HashChains,
 }
 
 impl Model for TableBuilder {
@@ -51,11 +33,11 @@ impl Model for TableBuilder {
 
     ghost coded = { coded_list tree_code };
 
-    ghost use Rattle.circ_replay.specs.Roots.{IsRooted};
+    ghost use Rattle.circ_replay.specs.Fingerprints.{IsKeyed};
 
     ghost view = { λ a. a.terms.items };
 
-    ghost invariant = { λ a. IsRooted a.terms.items a.roots.keys };
+    ghost invariant = { λ a. IsKeyed a.terms.items a.chains };
 }
 
 impl TableBuilder {
@@ -66,13 +48,14 @@ impl TableBuilder {
         TableBuilder {
             alloc,
             terms: Vec::new(alloc),
-            roots: IndexSet::new(alloc),
+            chains: HashChains::new(alloc),
         }
     }
 
     /// The term's number. Its subterms that are not in the table are added, in post-order. None
     /// where the table would then have too many terms. It is unchanged then, and after want of
-    /// memory. By its code it looks up each node of the term, counted as a tree, and copies none.
+    /// memory. By its code a subterm that is there is compared with the term of its number, and
+    /// what stands below it is not looked up; no term is copied.
     pub fn number(&mut self, term: &Term) -> Result<Option<u32>, AllocError>
         ensures exact { Numbers self.old self.new (added self.old term.now) term.now result }
         ensures named { IfOk result (λ o. IfSome o (λ n. slice_get self.new n ≡ Some term.now)) }
@@ -108,51 +91,60 @@ impl TableBuilder {
     fn add(&mut self, term: &Term) -> Result<Option<u32>, AllocError>
         ensures { NumbersSoFar self.old self.new term.now result }
     {
-        match term.kind() {
-            Kind::Variable { number, sort } => self.enter(Root::Variable { number, sort }, term),
-            Kind::Application { op, sort, args } => {
-                let Some(args) = self.add_all(args)? else {
-                    return Ok(None);
-                };
-                self.enter(Root::Application { op, sort, args }, term)
-            }
+        if let Some(number) = self.find(term) {
+            return Ok(Some(number));
         }
+        if !self.add_all(term.args())? {
+            return Ok(None);
+        }
+        self.enter(term)
     }
 
+    // The terms and their subterms are added, or there is no room for all.
     #[cycle(add)]
-    fn add_all(&mut self, terms: &[Term]) -> Result<Option<ArgumentNumbers>, AllocError>
-        ensures { NumbersAllSoFar self.old self.new (trees_of terms.now) (λ v. v.items) result }
+    fn add_all(&mut self, terms: &[Term]) -> Result<bool, AllocError>
+        ensures { AddsAllSoFar self.old self.new (trees_of terms.now) result }
     {
-        let mut numbers = ArgumentNumbers::new(self.alloc);
         for term in terms {
-            let Some(number) = self.add(term)? else {
-                return Ok(None);
+            let Some(_) = self.add(term)? else {
+                return Ok(false);
             };
-            numbers.push(number)?;
         }
-        Ok(Some(numbers))
+        Ok(true)
     }
 
-    // The number of the term with this root. The term goes last where it is new.
-    fn enter(&mut self, root: Root, term: &Term) -> Result<Option<u32>, AllocError>
-        requires { HasRoot self.old (plain_root root) term.now }
+    // The number of the term, whose arguments are there. It goes last where it is new.
+    fn enter(&mut self, term: &Term) -> Result<Option<u32>, AllocError>
+        requires { AllByRecursion (λ a. has self.old a ≡ true) (args_of term.now) }
         ensures { Numbers self.old self.new (entered self.old term.now) term.now result }
     {
-        let (number, fresh) = self.roots.insert_full(root)?;
-        if !fresh {
-            return Ok(Some(number as u32));
+        match self.find(term) {
+            Some(number) => Ok(Some(number)),
+            None => self.put(term),
         }
-        match put(&mut self.terms, term) {
-            Ok(true) => Ok(Some(number as u32)),
-            Ok(false) => {
-                self.roots.truncate(number);
-                Ok(None)
-            }
-            Err(fault) => {
-                self.roots.truncate(number);
-                Err(fault)
-            }
+    }
+
+    // The number of the term, if it is there.
+    fn find(&self, term: &Term) -> Option<u32>
+        ensures { Finds self.now term.now result }
+    {
+        find(self.terms.as_slice(), &self.chains, term)
+    }
+
+    // The new term goes last, where there is room.
+    fn put(&mut self, term: &Term) -> Result<Option<u32>, AllocError>
+        requires { IsNext self.old term.now }
+        ensures { Numbers self.old self.new (self.old ++ term.now ∷ []) term.now result }
+    {
+        let number = self.terms.len();
+        if number >= MOST_TERMS {
+            return Ok(None);
         }
+        self.terms.reserve(1)?;
+        let copy = term.share()?;
+        self.chains.push(term.fingerprint())?;
+        self.terms.push_reserved(copy);
+        Ok(Some(number as u32))
     }
 
     // The first terms alone are kept.
@@ -160,17 +152,21 @@ impl TableBuilder {
         ensures { self.new ≡ take count self.old }
     {
         self.terms.truncate(count);
-        self.roots.truncate(count);
+        self.chains.truncate(count);
     }
 }
 
-// Whether there is room for the term, which goes last then.
-fn put(terms: &mut Vec<Term>, term: &Term) -> Result<bool, AllocError>
-    ensures { Puts terms.old.items terms.new.items term.now result }
+// The number of the term, if it is there.
+fn find(terms: &[Term], chains: &HashChains, term: &Term) -> Option<u32>
+    requires { IsKeyed terms.now chains.now }
+    ensures { Finds terms.now term.now result }
 {
-    if terms.len() >= MOST_TERMS {
-        return Ok(false);
+    let mut last = chains.newest(term.fingerprint());
+    while let Some(number) = last {
+        if terms[number as usize].same(term) {
+            return Some(number);
+        }
+        last = chains.older(number);
     }
-    terms.push(term.share()?)?;
-    Ok(true)
+    None
 }

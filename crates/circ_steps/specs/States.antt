@@ -37,5 +37,5 @@ with_sides s [] = []
 with_sides s (g ∷ gs) = record g { sides = s } ∷ gs
 
 -- some were added at the end
-abbrev pub Extends : (old new : List Pattern) → Type 0
-Extends old new = (added : List Pattern) × (new ≡ old ++ added)
+abbrev pub AddsHypotheses : (old new : List Pattern) → Type 0
+AddsHypotheses old new = (added : List Pattern) × (new ≡ old ++ added)

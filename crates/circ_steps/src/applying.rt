@@ -9,7 +9,7 @@ ghost use Rattle.circ_theory.specs.Rewriting.{named};
 ghost use Rattle.circ_proof.specs.Rules.{Done, map_step, AllOfStep, IsSortedState};
 ghost use Rattle.circ_proof.specs.PlainProof.{plain_step};
 ghost use Rattle.circ_rules.specs.Answers.{Applies};
-ghost use Rattle.circ_steps.specs.States.{state_at, IsStateThere, Extends};
+ghost use Rattle.circ_steps.specs.States.{state_at, IsStateThere, AddsHypotheses};
 ghost use Rattle.circ_steps.specs.Judging.{AreRules, terms_at};
 
 use crate::rules::Rules;
@@ -38,7 +38,7 @@ impl Rules<'_> {
         ensures exact { IfOk result (Applies self.now.theory.now self.now.gamma.now
             (map_step (named (terms_at nodes.old self.now)) (plain_step step.now))
             (state_at nodes.old state.old) (state_at nodes.new state.new)) }
-        ensures hyps { OnOk result (Extends state.old.hyps.items state.new.hyps.items) }
+        ensures hyps { OnOk result (AddsHypotheses state.old.hyps.items state.new.hyps.items) }
         ensures kept { OnErr result
             (state_at nodes.new state.new ≡ state_at nodes.old state.old) }
         ensures sorted { IsSortedState self.now.theory.now (state_at nodes.new state.new) }
@@ -63,7 +63,7 @@ impl Rules<'_> {
         ensures exact { IfOk result (Applies self.now.theory.now self.now.gamma.now
             (map_step (named (terms_at nodes.old self.now)) (plain_step step.now))
             (state_at nodes.old state.old) (state_at nodes.new state.new)) }
-        ensures hyps { OnOk result (Extends state.old.hyps.items state.new.hyps.items) }
+        ensures hyps { OnOk result (AddsHypotheses state.old.hyps.items state.new.hyps.items) }
         ensures kept { OnErr result
             (state_at nodes.new state.new ≡ state_at nodes.old state.old) }
     {

@@ -17,7 +17,7 @@ ghost use Rattle.circ_rules.specs.Derivatives.{instances_on, Cause, NamesCause};
 ghost use Rattle.circ_shared.specs.Patterns.{goal_at, variable_trees, IsPattern};
 ghost use Rattle.circ_steps.specs.Derivatives.{above_variables, IsDerivativeAt, BuildsBothAt};
 ghost use Rattle.circ_steps.specs.Derivatives.{MakesDerivativeAt, MakesDerivativesAt};
-ghost use Rattle.circ_steps.specs.States.{state_at, IsStateThere, Extends};
+ghost use Rattle.circ_steps.specs.States.{state_at, IsStateThere, AddsHypotheses};
 ghost use Rattle.circ_steps.specs.Judging.{AreRules};
 
 use crate::derivative::{SharedDerivative, variables};
@@ -41,7 +41,7 @@ impl Rules<'_> {
         requires sorted { IsSortedState self.now.theory.now (state_at nodes.old state.old) }
         ensures grows { Grows nodes.old nodes.new }
         ensures state { IsStateThere nodes.new state.new }
-        ensures hyps { OnOk result (Extends state.old.hyps.items state.new.hyps.items) }
+        ensures hyps { OnOk result (AddsHypotheses state.old.hyps.items state.new.hyps.items) }
         ensures exact { IfOk result (Applies self.now.theory.now self.now.gamma.now Derive
             (state_at nodes.old state.old) (state_at nodes.new state.new)) }
         ensures kept { OnErr result

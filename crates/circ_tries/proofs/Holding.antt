@@ -1,5 +1,5 @@
 -- One condition: both sides are built, then normalised, then compared.
-use Rattle.std.proofs.Common.{◌≡◌, ℕ, Bool, true, false, if◌then◌else◌, List, ◌∷◌, Option, Some, None, refl, ap, subst, ◌∙◌}
+use Rattle.std.proofs.Common.{◌≡◌, ℕ, Bool, true, false, if◌then◌else◌, List, ◌∷◌, Option, Some, None, Ok, refl, ap, sym, subst, ◌∙◌}
 use Rattle.circ_term.specs.Tree.{Tree}
 use Rattle.circ_term.specs.Limits.{Limit, Big, Deep, first_limit, or_else, Names}
 use Rattle.circ_term.specs.Order.{is_same}
@@ -12,13 +12,14 @@ use Rattle.circ_nodes.specs.Named.{IsNamed, IsOnce}
 use Rattle.circ_nodes.proofs.Numbers.{named_one}
 use Rattle.circ_rewrite.proofs.MatchingFacts.{is_same_term}
 use Rattle.circ_rewrite.specs.Norm.{Normal_form}
-use Rattle.circ_rewrite.specs.Plain.{Faults, rewrite_fault}
+use Rattle.circ_rewrite.specs.Plain.{Faults, plain_traces, rewrite_fault}
 use Rattle.circ_rewrite.specs.Replacement.{Passes, more_passes, Traced, trace_row}
 use Rattle.circ_rewrite.specs.declared.fault.RewriteFault.{RewriteFault}
 use Rattle.circ_rewrite.specs.declared.parts.Pass.{Pass}
+use Rattle.circ_rewrite.specs.declared.parts.Trace.{Trace}
 use Rattle.circ_conditional_norm.specs.Tries.{Normaliser, same_forms, condition_holds, conditions_hold}
 use Rattle.circ_conditional_norm.specs.Work.{Work, Made, Past, map_found, unless_limit, normal_then}
-use Rattle.circ_tries.specs.Trying.{Hinders, passes_before}
+use Rattle.circ_tries.specs.Trying.{Hinders, IsPassOf, TestsCondition, passes_before}
 use Rattle.circ_tries.proofs.Faulting.{hinders_map, hinders_normal, hinders_same}
 
 module _ (f : Normaliser) (σ : Substitution) (p : Pair) (k : ℕ) (rest : ℕ → Work (Option Passes)) where
@@ -98,3 +99,15 @@ other_numbers nodes n m x y once h k different = go (is_same x y) refl
 
 pub same_numbers : (nodes : List Tree) (n m : ℕ) (x y : Tree) → IsNamed nodes n x → IsNamed nodes m y → n ≡ m → is_same x y ≡ true
 same_numbers nodes n m x y h k e = is_same_term x y (named_one nodes m x y (subst (λ i. IsNamed nodes i x) e h) k)
+
+-- what comes of both results
+module _ (f : Normaliser) (σ : Substitution) (p : Pair) (k : ℕ) (v : first_limit (instance σ p.left) ≡ None) (w : first_limit (instance σ p.right) ≡ None) where
+  pub numbers_tested : (nodes : List Tree) (n m : ℕ) (x y : Tree) (left right : List Trace) (l less : ℕ) → IsOnce nodes → IsNamed nodes n x → IsNamed nodes m y
+      → f k (instance σ p.left) ≡ Normal_form x (plain_traces left) l → f l (instance σ p.right) ≡ Normal_form y (plain_traces right) less
+      → (o : Option Pass) → IsPassOf n left m right o → TestsCondition f σ p k less (Ok o)
+  numbers_tested nodes n m x y left right l less once h g e also None differ = λ rest.
+      forms_differ f σ p k rest v w x (plain_traces left) l e y (plain_traces right) less also (other_numbers nodes n m x y once h g differ)
+  numbers_tested nodes n m x y left right l less once h g e also (Some pass) same = λ rest.
+      forms_same f σ p k rest v w x (plain_traces left) l e y (plain_traces right) less also (same_numbers nodes n m x y h g same.0)
+      ∙ ap (λ (ts : List Trace). map_found (more_passes (trace_row (plain_traces ts)) (trace_row (plain_traces right))) (rest less)) (sym same.1)
+      ∙ ap (λ (us : List Trace). map_found (more_passes (trace_row (plain_traces pass.left.items)) (trace_row (plain_traces us))) (rest less)) (sym same.2)

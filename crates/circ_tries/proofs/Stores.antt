@@ -1,5 +1,5 @@
 -- A store stays right when terms are added, and what is due with tries around.
-use Rattle.std.proofs.Common.{◌≡◌, ℕ, ◌-◌, List, [], ◌∷◌, ◌++◌, map, None, refl, ap, sym, ◌∙◌}
+use Rattle.std.proofs.Common.{◌≡◌, ℕ, ◌-◌, ◌≤◌, List, [], ◌∷◌, ◌++◌, map, None, refl, ap, sym, ◌∙◌, arith}
 use Rattle.circ_term.specs.Tree.{Tree}
 use Rattle.circ_term.specs.Growing.{Grows}
 use Rattle.circ_term.specs.Limits.{node_limit, depth_limit}
@@ -10,6 +10,7 @@ use Rattle.circ_rewrite.specs.declared.fault.RewriteFault.{RewriteFault}
 use Rattle.circ_chain.specs.Chain.{under}
 use Rattle.circ_nodes.specs.Built.{AreBuilt}
 use Rattle.circ_nodes.proofs.Building.{built_later}
+use Rattle.circ_nodes.proofs.Numbers.{grows_self, grows_more}
 use Rattle.circ_due.specs.Chosen.{due_by}
 use Rattle.circ_due.specs.declared.means.Means.{Means}
 use Rattle.circ_due.proofs.Later.{ready_later}
@@ -21,7 +22,7 @@ use Rattle.circ_conditional_norm.proofs.Within.{whole_run}
 use Rattle.circ_tries.specs.declared.parts.Course.{Course}
 use Rattle.circ_tries.specs.declared.parts.Room.{Room}
 use Rattle.circ_tries.specs.declared.store.Store.{Store}
-use Rattle.circ_tries.specs.Store.{IsStore, AreStill}
+use Rattle.circ_tries.specs.Store.{IsStore, AreStill, IsReadyToWork, HasWorked}
 use Rattle.circ_tries.specs.Trying.{due_in, norm_by}
 use Rattle.circ_tries.specs.Turning.{plain_room, IsFallingDue, FaultsAt, SettlesAt}
 use Rattle.circ_tries.proofs.Faulting.{whole_faults}
@@ -46,6 +47,48 @@ store_made m a b g e k h = record {
 -- more is known, and no terms were added
 pub store_kept : (m : Means) (a b : Store) → b.nodes ≡ a.nodes → b.terms ≡ a.terms → AreStill (due_by m) b.nodes b.still.items → IsStore m a → IsStore m b
 store_kept m a b e f k h = record { ready = rw e h.ready; right = k; built = rw (e, f) h.built }
+
+-- ---- work that has gone on
+
+pub worked_self : (m : Means) (s : Store) (k : ℕ) → IsStore m s → HasWorked m s s k k
+worked_self m s k h = record { store = h; grows = grows_self s.nodes; less = omega arith }
+
+pub worked_on : (m : Means) (a b c : Store) (k l n : ℕ) → HasWorked m a b k l → HasWorked m b c l n → HasWorked m a c k n
+worked_on m a b c k l n g h =
+    let x = g.less in
+    let y = h.less in
+    record { store = h.store; grows = grows_more a.nodes b.nodes c.nodes g.grows h.grows; less = omega (arith, x, y) }
+
+-- terms were added first
+pub worked_grown : (m : Means) (a b c : Store) (k l : ℕ) → Grows a.nodes b.nodes → HasWorked m b c k l → HasWorked m a c k l
+worked_grown m a b c k l g w = record { store = w.store; grows = grows_more a.nodes b.nodes c.nodes g w.grows; less = w.less }
+
+-- or last
+pub worked_later : (m : Means) (a b c : Store) (k l : ℕ) → HasWorked m a b k l → Grows b.nodes c.nodes → c.still.items ≡ b.still.items → c.terms ≡ b.terms → HasWorked m a c k l
+worked_later m a b c k l w g e f = record {
+  store = store_later m b c g e f w.store;
+  grows = grows_more a.nodes b.nodes c.nodes w.grows g;
+  less = w.less;
+}
+
+pub worked_made : (m : Means) (a b c : Store) (k l n : ℕ) → HasWorked m a b k l → Grows b.nodes c.nodes → c.still.items ≡ b.still.items → AreBuilt c.nodes c.terms → n ≤ l
+    → HasWorked m a c k n
+worked_made m a b c k l n w g e f h =
+    let x = w.less in
+    record { store = store_made m b c g e f w.store; grows = grows_more a.nodes b.nodes c.nodes w.grows g; less = omega (arith, x, h) }
+
+pub worked_kept : (m : Means) (a b c : Store) (k l : ℕ) → HasWorked m a b k l → c.nodes ≡ b.nodes → c.terms ≡ b.terms → AreStill (due_by m) c.nodes c.still.items → HasWorked m a c k l
+worked_kept m a b c k l w e f h = record { store = store_kept m b c e f h w.store; grows = rw e w.grows; less = w.less }
+
+-- and may go on further
+pub ready_on : (m : Means) (a b : Store) (tries k l : ℕ) → IsReadyToWork m a tries k → HasWorked m a b k l → IsReadyToWork m b tries l
+ready_on m a b tries k l r w =
+    let x = r.fits in
+    let y = w.less in
+    record { store = w.store; tries = r.tries; fits = omega (arith, x, y) }
+
+pub ready_grown : (m : Means) (a b : Store) (tries k : ℕ) → Grows a.nodes b.nodes → b.still.items ≡ a.still.items → b.terms ≡ a.terms → IsReadyToWork m a tries k → IsReadyToWork m b tries k
+ready_grown m a b tries k g e f r = record { store = store_later m a b g e f r.store; tries = r.tries; fits = r.fits }
 
 -- ---- what is due with tries around
 

@@ -1,8 +1,9 @@
 -- Where no rule has conditions, what a memo answers is the answer with any number of tries around.
 use Rattle.std.proofs.Common.{◌≡◌, ℕ, ◌-◌, List, [], ◌∷◌, ◌++◌, length, Result, refl, sym, subst, arith}
+use Rattle.std.specs.List.{AllByRecursion}
 use Rattle.circ_term.specs.Tree.{Tree}
 use Rattle.circ_theory.specs.Theory.{Pair}
-use Rattle.circ_rewrite.specs.Due.{AreUnconditional}
+use Rattle.circ_rewrite.specs.Due.{AreUnconditional, IsRewriteRule}
 use Rattle.circ_rewrite.specs.Norm.{Normalised, norm}
 use Rattle.circ_rewrite.specs.Plain.{Answers}
 use Rattle.circ_rewrite.specs.declared.fault.RewriteFault.{RewriteFault}
@@ -30,3 +31,8 @@ no_conditions (p ∷ ps) h = absurd (omega (arith, h))
 pub more_unconditional : (rules : List Rule) (rule : Rule) → AreUnconditional rules → rule.conds ≡ [] → AreUnconditional (rules ++ rule ∷ [])
 more_unconditional [] rule all e = (e, tt)
 more_unconditional (r ∷ rules) rule all e = (all.0, more_unconditional rules rule all.1 e)
+
+-- one more rewrite rule
+pub rules_push : (rules : List Rule) (rule : Rule) → AllByRecursion IsRewriteRule rules → IsRewriteRule rule → AllByRecursion IsRewriteRule (rules ++ rule ∷ [])
+rules_push [] rule all is = (is, tt)
+rules_push (r ∷ rules) rule all is = (all.0, rules_push rules rule all.1 is)

@@ -1,6 +1,7 @@
 -- What is known of interned terms.
-use Rattle.std.specs.Prelude.{◌≡◌, ◌⊎◌, ℕ, zero, suc, Bool, true, false, List, [], ◌∷◌, Option}
+use Rattle.std.specs.Prelude.{◌≡◌, ◌⊎◌, ◌≤◌, ◌<◌, ◌^◌, ℕ, zero, suc, Bool, true, false, List, [], ◌∷◌, Option}
 use Rattle.std.specs.List.{list_all}
+use Rattle.circ_term.specs.Growing.{Grows}
 use Rattle.circ_term.specs.Tree.{Tree, Trees, App}
 use Rattle.circ_rewrite.specs.Replacement.{Replacement}
 use Rattle.circ_rewrite.specs.Standing.{IsSettled}
@@ -38,3 +39,15 @@ pub record IsStore (m : Means) (s : Store) : Type 0 where
   pub ready : IsReady s.nodes m
   pub right : AreStill (due_by m) s.nodes s.still.items
   pub built : AreBuilt s.nodes s.terms
+
+-- the work may begin on a store, with so many tries around it and with this budget
+pub record IsReadyToWork (m : Means) (s : Store) (around budget : ℕ) : Type 0 where
+  pub store : IsStore m s
+  pub tries : around ≤ 8
+  pub fits : budget < 2 ^ 64
+
+-- the work has gone on: the store is right, its table has grown, and no more is left of the budget than there was
+pub record HasWorked (m : Means) (old new : Store) (budget left : ℕ) : Type 0 where
+  pub store : IsStore m new
+  pub grows : Grows old.nodes new.nodes
+  pub less : left ≤ budget

@@ -74,6 +74,11 @@ TestsCondition normal σ p k left (Ok (Some pass)) =
     (rest : ℕ → Work (Option Passes)) → condition_holds normal σ p k rest ≡ map_found (pass_before pass) (rest left)
 TestsCondition normal σ p k left (Err e) = (rest : ℕ → Work (Option Passes)) → Hinders e left (condition_holds normal σ p k rest)
 
+-- the pass of two sides whose normal forms have these numbers, with these traces; none where the numbers differ
+abbrev pub IsPassOf : (a : ℕ) → (left : List Trace) → (b : ℕ) → (right : List Trace) → Option Pass → Type 0
+IsPassOf a left b right None = a ≡ b → ⊥
+IsPassOf a left b right (Some pass) = (a ≡ b) × (pass.left.items ≡ left) × (pass.right.items ≡ right)
+
 -- the answer is the numbers of both sides of a condition, or says why the condition comes to nothing, however its sides are normalised
 abbrev pub BuildsSides : (nodes : List Tree) → Substitution → Pair → Result (ℕ × ℕ) RewriteFault → Type 0
 BuildsSides nodes σ p (Ok x) = (IsNamed nodes x.0 (instance σ p.left) × IsWithinLimits (instance σ p.left))

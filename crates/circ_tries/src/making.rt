@@ -1,15 +1,15 @@
 //! Terms that are built: an argument put in, and a replacement made.
 ghost use Rattle.std.specs.Prelude.{◌≡◌, ◌≤◌, ◌<◌, ◌+◌, ◌-◌, ◌^◌, ℕ, List, [], ◌∷◌, Option, Some};
-ghost use Rattle.std.specs.Prelude.{length, slice_set};
+ghost use Rattle.std.specs.Prelude.{length, slice_set, OnOk};
 ghost use Rattle.std.specs.List.{slice_get};
 ghost use Rattle.circ_term.specs.Tree.{Tree, args_of, replaced, size_of};
 ghost use Rattle.circ_term.specs.Limits.{IsWithinLimits};
 ghost use Rattle.circ_term.specs.Growing.{Grows};
 ghost use Rattle.circ_rewrite.specs.Plain.{plain_trace, plain_passes, rewrite_fault};
-ghost use Rattle.circ_rewrite.specs.Replacement.{Replacement};
+ghost use Rattle.circ_rewrite.specs.Replacement.{Replacement, placed, traced};
 ghost use Rattle.circ_nodes.specs.Built.{AreBuilt};
 ghost use Rattle.circ_nodes.specs.Named.{IsNamed, Interns, tree_at};
-ghost use Rattle.circ_due.specs.Chosen.{IsReady};
+ghost use Rattle.circ_due.specs.Chosen.{IsReady, IsChosen};
 ghost use Rattle.circ_conditional_norm.specs.Work.{Work, Made};
 ghost use Rattle.circ_tries.specs.Trying.{BuildsSides, IsFound, with_passes};
 ghost use Rattle.circ_term.specs.Subst.{substitution_of};
@@ -17,7 +17,7 @@ ghost use Rattle.circ_theory.specs.Pairs.{plain_pair};
 ghost use Rattle.circ_due.specs.Bounds.{bounds_in, AreBound};
 ghost use Rattle.circ_conditional_norm.specs.Within.{is_past};
 ghost use Rattle.circ_tries.specs.Turning.{IsInside, IsAtRoot, IsFallingDue, IsPut, IsOutgrown};
-ghost use Rattle.circ_tries.specs.Turning.{MakesAt, plain_room};
+ghost use Rattle.circ_tries.specs.Turning.{MakesAt, Writes, plain_room};
 
 use crate::parts::{Course, Found, Room, Stop, Turn};
 use circ_due::{Bound, Means, instance};
@@ -25,7 +25,7 @@ use circ_nodes::{Nodes, Numbers, Shape, Terms};
 use circ_rewrite::{Pass, RewriteFault, Trace};
 use circ_term::TermFault;
 use circ_theory::Pair;
-use std::alloc::Global;
+use std::alloc::{AllocError, Global};
 
 // The argument of a term at a place.
 pub(crate) fn arg_at(nodes: &Nodes, number: u32, place: usize) -> u32
@@ -157,22 +157,58 @@ pub(crate) fn make(
         → MakesAt due room nodes.new course.old.path.items course.old course.new from t k
         budget.new result }
 {
-    let Found { choice, conds } = found;
     if *budget == 0 {
+        drop(found);
         return Err(Stop::Fault(RewriteFault::Spent));
     }
-    let new = match means.build(nodes, number, &choice) {
+    let new = match means.build(nodes, number, &found.choice) {
         Ok(new) => new,
-        Err(fault) => return Err(Stop::Fault(rewrite_fault(fault))),
+        Err(fault) => {
+            drop(found);
+            return Err(Stop::Fault(rewrite_fault(fault)));
+        }
     };
     nodes.known_at(new);
     if is_past(nodes, new, room) {
+        drop(found);
         return Err(Stop::Outgrows(new));
     }
-    let trace = means.trace(nodes, terms, &choice, course.path.as_slice(), new)?;
-    course.traces.push(passing(trace, conds))?;
+    write(means, nodes, terms, course, found, new)?;
     *budget -= 1;
     Ok(new)
+}
+
+// Writes the trace of a replacement that was found, by the new term's number.
+fn write(
+    means: &Means<'_>,
+    nodes: &Nodes,
+    terms: &mut Terms,
+    course: &mut Course,
+    found: Found,
+    new: u32,
+) -> Result<(), AllocError>
+    requires ready { IsReady nodes.now means.now }
+    requires there { new < length nodes.now }
+    requires chosen { IsChosen nodes.now means.now found.choice }
+    requires built { AreBuilt nodes.now terms.old }
+    ensures built { AreBuilt nodes.now terms.new }
+    ensures writes { (t : Tree) (d : Replacement) → IsFound nodes.now means.now t found d
+        → IsNamed nodes.now new d.new → OnOk result (Writes course.old.path.items course.old
+        course.new (traced (placed [] d) ∷ [])) }
+{
+    let Found { choice, conds } = found;
+    let trace = means.trace(nodes, terms, &choice, course.path.as_slice(), new);
+    drop(choice);
+    match trace {
+        Err(fault) => {
+            drop(conds);
+            Err(fault)
+        }
+        Ok(trace) => {
+            course.traces.push(passing(trace, conds))?;
+            Ok(())
+        }
+    }
 }
 
 // The numbers of both sides of a condition, whose variables are given these terms.

@@ -36,6 +36,26 @@ pub fn normalise(
     ensures less { budget.new ≤ budget.old }
 {
     let mut reducer = Reducer::new(alloc, theory, share_rules(alloc, rules)?)?;
+    let normal = normal_under(&mut reducer, assumptions, term, tries, budget);
+    drop(reducer);
+    normal
+}
+
+// The same by a reducer of these rules.
+fn normal_under(
+    reducer: &mut Reducer<'_>,
+    assumptions: &[Pair],
+    term: &Term,
+    tries: u32,
+    budget: &mut u64,
+) -> Result<Normal, RewriteFault>
+    requires few { length assumptions.now < 2 ^ 32 }
+    requires tries { tries ≤ 8 }
+    ensures exact { Answers result budget.new (conditional_norm tries
+        reducer.old.theory.signature reducer.old.rules (map plain_pair assumptions.now)
+        budget.old term.now) }
+    ensures less { budget.new ≤ budget.old }
+{
     reducer.assume(assumptions)?;
     reducer.normal(term, tries, budget)
 }

@@ -99,15 +99,16 @@ impl<'a> Reducer<'a> {
         ensures err { OnErr result (self.new ≡ record self.old { assumptions = [] }) }
     {
         self.forget();
-        if rule.conds.len() == 0 {
-            return match &mut self.way {
-                Way::Plain(memo) => memo.push(rule),
-                Way::Tried(trying) => trying.push(rule),
-            };
-        }
+        let is_plain = rule.conds.len() == 0;
         match &mut self.way {
-            Way::Plain(_) => self.try_with(rule),
             Way::Tried(trying) => trying.push(rule),
+            Way::Plain(memo) => {
+                if is_plain {
+                    memo.push(rule)
+                } else {
+                    self.try_with(rule)
+                }
+            }
         }
     }
 
@@ -208,10 +209,9 @@ fn tried_with<'a>(
       assumptions = [];
     }) }
 {
-    let rules = share_rules(alloc, rules)?;
-    let mut trying = Trying::new(alloc, theory, rules)?;
-    trying.push(rule)?;
-    Ok(trying)
+    let mut all = share_rules(alloc, rules)?;
+    all.push(rule)?;
+    Trying::new(alloc, theory, all)
 }
 
 // Whether no rule has conditions.

@@ -1,9 +1,8 @@
 //! Normalising interned terms, each by itself: its arguments from the left, then the term, whose
 //! rules are tried.
-ghost use Rattle.std.specs.Prelude.{◌≡◌, ◌≤◌, ◌<◌, ◌^◌, ◌+◌, ℕ, List, [], length, map};
+ghost use Rattle.std.specs.Prelude.{◌≡◌, ◌<◌, ◌+◌, ℕ, List, [], length, map};
 ghost use Rattle.std.specs.Prelude.{Option, Some, None};
 ghost use Rattle.std.specs.List.{slice_get};
-ghost use Rattle.circ_term.specs.Growing.{Grows};
 ghost use Rattle.circ_term.specs.Tree.{Tree, args_of};
 ghost use Rattle.circ_term.specs.Subst.{substitution_of};
 ghost use Rattle.circ_rewrite.specs.Plain.{plain_passes};
@@ -12,10 +11,11 @@ ghost use Rattle.circ_nodes.specs.Named.{IsNamed};
 ghost use Rattle.circ_theory.specs.Pairs.{plain_pair};
 ghost use Rattle.circ_due.specs.Bounds.{bounds_in, AreBound};
 ghost use Rattle.circ_conditional_norm.specs.Tries.{before_rules, conditions_hold, rules_tried, tried};
-ghost use Rattle.circ_tries.specs.Store.{IsStore};
+ghost use Rattle.circ_tries.specs.Store.{IsReadyToWork, HasWorked};
 ghost use Rattle.circ_tries.specs.Turning.{IsInside, IsAtRoot, Ends, TurnsAt, ReadiesArgs, PassesArg};
 ghost use Rattle.circ_tries.specs.Trying.{due_in, norm_by, conditions_by, TestsCondition};
-ghost use Rattle.circ_tries.specs.Trying.{FindsDue, FindsPasses, AnswersNumber};
+ghost use Rattle.circ_tries.specs.Trying.{FindsDue, FindsPasses, AnswersNumber, IsPassOf};
+ghost use Rattle.circ_tries.specs.declared.parts.Stop.TheVariants.{Fault, Outgrows};
 
 use crate::making::{arg_at, build_sides, make, outgrow, put_value, room_for};
 use crate::parts::{Course, Found, MOST_TRIES, Room, Stop, Turn};
@@ -35,13 +35,9 @@ pub(crate) fn settle_whole(
     tries: u32,
     budget: &mut u64,
 ) -> Result<(u32, Vec<Trace>), RewriteFault>
-    requires store { IsStore means.now store.old }
+    requires ready { IsReadyToWork means.now store.old tries budget.old }
     requires there { number < length store.old.nodes }
-    requires tries { tries ≤ 8 }
-    requires fits { budget.old < 2 ^ 64 }
-    ensures store { IsStore means.now store.new }
-    ensures grows { Grows store.old.nodes store.new.nodes }
-    ensures less { budget.new ≤ budget.old }
+    ensures worked { HasWorked means.now store.old store.new budget.old budget.new }
     ensures exact { (t : Tree) → IsNamed store.old.nodes number t
         → AnswersNumber (λ traces. traces.items) store.new.nodes budget.new
         (norm_by means.now tries budget.old t) result }
@@ -54,8 +50,21 @@ pub(crate) fn settle_whole(
     let mut course = Course::new(store.alloc);
     match settle(means, store, &mut course, number, room, tries, budget) {
         Ok(value) => Ok((value, course.traces)),
-        Err(Stop::Fault(fault)) => Err(fault),
-        Err(Stop::Outgrows(_)) => unreachable!(),
+        Err(stop) => {
+            drop(course);
+            Err(whole_fault(stop))
+        }
+    }
+}
+
+// Why a whole term has no normal form: it does not outgrow bounds.
+fn whole_fault(stop: Stop) -> RewriteFault
+    requires { (number : ℕ) → stop ≡ Outgrows number → ⊥ }
+    ensures { stop ≡ Fault result }
+{
+    match stop {
+        Stop::Fault(fault) => fault,
+        Stop::Outgrows(_) => unreachable!(),
     }
 }
 
@@ -70,13 +79,9 @@ fn settle(
     tries: u32,
     budget: &mut u64,
 ) -> Result<u32, Stop>
-    requires store { IsStore means.now store.old }
+    requires ready { IsReadyToWork means.now store.old tries budget.old }
     requires inside { IsInside store.old.nodes room number }
-    requires tries { tries ≤ 8 }
-    requires fits { budget.old < 2 ^ 64 }
-    ensures store { IsStore means.now store.new }
-    ensures grows { Grows store.old.nodes store.new.nodes }
-    ensures less { budget.new ≤ budget.old }
+    ensures worked { HasWorked means.now store.old store.new budget.old budget.new }
     ensures ends { (t : Tree) → IsNamed store.old.nodes number t
         → Ends (due_in means.now tries) room store.new.nodes course.old.path.items
         course.old course.new t budget.old budget.new result }
@@ -102,13 +107,9 @@ fn turn(
     tries: u32,
     budget: &mut u64,
 ) -> Result<Turn, Stop>
-    requires store { IsStore means.now store.old }
+    requires ready { IsReadyToWork means.now store.old tries budget.old }
     requires inside { IsInside store.old.nodes room here }
-    requires tries { tries ≤ 8 }
-    requires fits { budget.old < 2 ^ 64 }
-    ensures store { IsStore means.now store.new }
-    ensures grows { Grows store.old.nodes store.new.nodes }
-    ensures less { budget.new ≤ budget.old }
+    ensures worked { HasWorked means.now store.old store.new budget.old budget.new }
     ensures turns { (t : Tree) → IsNamed store.old.nodes here t
         → TurnsAt (due_in means.now tries) room store.new.nodes course.old.path.items
         course.old course.new [] t budget.old budget.new result }
@@ -133,13 +134,9 @@ fn settle_args(
     tries: u32,
     budget: &mut u64,
 ) -> Result<u32, Stop>
-    requires store { IsStore means.now store.old }
+    requires ready { IsReadyToWork means.now store.old tries budget.old }
     requires inside { IsInside store.old.nodes room number }
-    requires tries { tries ≤ 8 }
-    requires fits { budget.old < 2 ^ 64 }
-    ensures store { IsStore means.now store.new }
-    ensures grows { Grows store.old.nodes store.new.nodes }
-    ensures less { budget.new ≤ budget.old }
+    ensures worked { HasWorked means.now store.old store.new budget.old budget.new }
     ensures readies { (t : Tree) → IsNamed store.old.nodes number t
         → ReadiesArgs (due_in means.now tries) room store.new.nodes course.old.path.items
         course.old course.new t budget.old budget.new result }
@@ -170,14 +167,10 @@ fn settle_arg(
     tries: u32,
     budget: &mut u64,
 ) -> Result<u32, Stop>
-    requires store { IsStore means.now store.old }
+    requires ready { IsReadyToWork means.now store.old tries budget.old }
     requires inside { IsInside store.old.nodes room here }
     requires place { (t : Tree) → IsNamed store.old.nodes here t → place < length (args_of t) }
-    requires tries { tries ≤ 8 }
-    requires fits { budget.old < 2 ^ 64 }
-    ensures store { IsStore means.now store.new }
-    ensures grows { Grows store.old.nodes store.new.nodes }
-    ensures less { budget.new ≤ budget.old }
+    ensures worked { HasWorked means.now store.old store.new budget.old budget.new }
     ensures passes { (t : Tree) → IsNamed store.old.nodes here t
         → PassesArg (due_in means.now tries) room store.new.nodes course.old.path.items
         course.old course.new t place budget.old budget.new result }
@@ -211,13 +204,9 @@ fn advance(
     tries: u32,
     budget: &mut u64,
 ) -> Result<Turn, Stop>
-    requires store { IsStore means.now store.old }
+    requires ready { IsReadyToWork means.now store.old tries budget.old }
     requires inside { IsInside store.old.nodes room number }
-    requires tries { tries ≤ 8 }
-    requires fits { budget.old < 2 ^ 64 }
-    ensures store { IsStore means.now store.new }
-    ensures grows { Grows store.old.nodes store.new.nodes }
-    ensures less { budget.new ≤ budget.old }
+    ensures worked { HasWorked means.now store.old store.new budget.old budget.new }
     ensures turns { (t : Tree) (from : List ℕ) → IsNamed store.old.nodes number t
         → IsAtRoot (due_in means.now tries) from t
         → TurnsAt (due_in means.now tries) room store.new.nodes course.old.path.items
@@ -254,13 +243,9 @@ fn find_due(
     tries: u32,
     budget: &mut u64,
 ) -> Result<Option<Found>, RewriteFault>
-    requires store { IsStore means.now store.old }
+    requires ready { IsReadyToWork means.now store.old tries budget.old }
     requires there { number < length store.old.nodes }
-    requires tries { tries ≤ 8 }
-    requires fits { budget.old < 2 ^ 64 }
-    ensures store { IsStore means.now store.new }
-    ensures grows { Grows store.old.nodes store.new.nodes }
-    ensures less { budget.new ≤ budget.old }
+    ensures worked { HasWorked means.now store.old store.new budget.old budget.new }
     ensures finds { (t : Tree) → IsNamed store.old.nodes number t
         → FindsDue store.new.nodes means.now t budget.new
         (due_in means.now tries budget.old t) result }
@@ -283,15 +268,11 @@ fn try_rules(
     tries: u32,
     budget: &mut u64,
 ) -> Result<Option<Found>, RewriteFault>
-    requires store { IsStore means.now store.old }
+    requires ready { IsReadyToWork means.now store.old tries budget.old }
     requires there { number < length store.old.nodes }
-    requires tries { tries ≤ 8 }
-    requires fits { budget.old < 2 ^ 64 }
     requires none { (t : Tree) → IsNamed store.old.nodes number t
         → before_rules means.now.theory.now.signature means.now.assumptions t ≡ None }
-    ensures store { IsStore means.now store.new }
-    ensures grows { Grows store.old.nodes store.new.nodes }
-    ensures less { budget.new ≤ budget.old }
+    ensures worked { HasWorked means.now store.old store.new budget.old budget.new }
     ensures finds { (t : Tree) → IsNamed store.old.nodes number t
         → FindsDue store.new.nodes means.now t budget.new
         (rules_tried (conditions_by means.now tries) means.now.rules.items budget.old t) result }
@@ -305,7 +286,10 @@ fn try_rules(
             }
             Some((rule, given)) => {
                 match try_rule(means, store, rule, given.as_slice(), tries, budget) {
-                    Err(fault) => return Err(fault),
+                    Err(fault) => {
+                        drop(given);
+                        return Err(fault);
+                    }
                     Ok(None) => {
                         drop(given);
                         from = rule + 1;
@@ -330,14 +314,10 @@ fn try_rule(
     tries: u32,
     budget: &mut u64,
 ) -> Result<Option<Vec<Pass>>, RewriteFault>
-    requires store { IsStore means.now store.old }
+    requires ready { IsReadyToWork means.now store.old tries budget.old }
     requires rule { rule < length means.now.rules.items }
     requires bound { AreBound store.old.nodes given.now }
-    requires tries { tries ≤ 8 }
-    requires fits { budget.old < 2 ^ 64 }
-    ensures store { IsStore means.now store.new }
-    ensures grows { Grows store.old.nodes store.new.nodes }
-    ensures less { budget.new ≤ budget.old }
+    ensures worked { HasWorked means.now store.old store.new budget.old budget.new }
     ensures finds { (r : Rule) → slice_get means.now.rules.items rule ≡ Some r
         → FindsPasses (λ passes. plain_passes passes.items) budget.new
         (tried (conditions_by means.now tries)
@@ -367,13 +347,9 @@ fn try_conditions(
     tries: u32,
     budget: &mut u64,
 ) -> Result<Option<Vec<Pass>>, RewriteFault>
-    requires store { IsStore means.now store.old }
+    requires ready { IsReadyToWork means.now store.old tries budget.old }
     requires bound { AreBound store.old.nodes given.now }
-    requires tries { tries ≤ 8 }
-    requires fits { budget.old < 2 ^ 64 }
-    ensures store { IsStore means.now store.new }
-    ensures grows { Grows store.old.nodes store.new.nodes }
-    ensures less { budget.new ≤ budget.old }
+    ensures worked { HasWorked means.now store.old store.new budget.old budget.new }
     ensures finds { FindsPasses (λ passes. plain_passes passes.items) budget.new
         (conditions_hold (norm_by means.now tries)
         (substitution_of (bounds_in store.old.nodes given.now)) (map plain_pair conds.now)
@@ -382,8 +358,14 @@ fn try_conditions(
     let mut passes = Vec::new(store.alloc);
     for cond in conds {
         match try_condition(means, store, cond, given, tries, budget) {
-            Err(fault) => return Err(fault),
-            Ok(None) => return Ok(None),
+            Err(fault) => {
+                drop(passes);
+                return Err(fault);
+            }
+            Ok(None) => {
+                drop(passes);
+                return Ok(None);
+            }
             Ok(Some(pass)) => passes.push(pass)?,
         }
     }
@@ -401,13 +383,9 @@ fn try_condition(
     tries: u32,
     budget: &mut u64,
 ) -> Result<Option<Pass>, RewriteFault>
-    requires store { IsStore means.now store.old }
+    requires ready { IsReadyToWork means.now store.old tries budget.old }
     requires bound { AreBound store.old.nodes given.now }
-    requires tries { tries ≤ 8 }
-    requires fits { budget.old < 2 ^ 64 }
-    ensures store { IsStore means.now store.new }
-    ensures grows { Grows store.old.nodes store.new.nodes }
-    ensures less { budget.new ≤ budget.old }
+    ensures worked { HasWorked means.now store.old store.new budget.old budget.new }
     ensures tests { TestsCondition (norm_by means.now tries)
         (substitution_of (bounds_in store.old.nodes given.now)) (plain_pair cond.now)
         budget.old budget.new result }
@@ -416,17 +394,32 @@ fn try_condition(
         Ok(sides) => sides,
         Err(fault) => return Err(fault),
     };
-    let (a, left) = match settle_whole(means, store, left, tries, budget) {
-        Ok(settled) => settled,
+    let first = match settle_whole(means, store, left, tries, budget) {
+        Ok(first) => first,
         Err(fault) => return Err(fault),
     };
-    let (b, right) = match settle_whole(means, store, right, tries, budget) {
-        Ok(settled) => settled,
-        Err(fault) => return Err(fault),
-    };
-    store.nodes.known();
-    if a != b {
-        return Ok(None);
+    match settle_whole(means, store, right, tries, budget) {
+        Err(fault) => {
+            drop(first);
+            Err(fault)
+        }
+        Ok(second) => {
+            store.nodes.known();
+            Ok(pass_of(first, second))
+        }
     }
-    Ok(Some(Pass { left, right }))
+}
+
+// The pass of a condition whose sides have these normal forms: where these are one.
+fn pass_of(left: (u32, Vec<Trace>), right: (u32, Vec<Trace>)) -> Option<Pass>
+    ensures { IsPassOf left.0 left.1.items right.0 right.1.items result }
+{
+    let (number, left) = left;
+    let (other, right) = right;
+    if number != other {
+        drop(left);
+        drop(right);
+        return None;
+    }
+    Some(Pass { left, right })
 }

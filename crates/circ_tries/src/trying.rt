@@ -1,10 +1,13 @@
 //! Normal forms by rules that are tried, one after the other.
-ghost use Rattle.std.specs.Prelude.{◌≡◌, ◌≤◌, ◌<◌, ◌+◌, ◌^◌, [], ◌∷◌, ◌++◌, length, map, IfOk};
+ghost use Rattle.std.specs.Prelude.{◌≡◌, ◌≤◌, ◌<◌, ◌+◌, ◌^◌, List, [], ◌∷◌, ◌++◌, length, map, IfOk};
 ghost use Rattle.std.specs.Prelude.{OnOk, OnErr};
 ghost use Rattle.std.specs.List.{AllByRecursion};
+ghost use Rattle.circ_term.specs.Tree.{Tree};
 ghost use Rattle.circ_theory.specs.Pairs.{plain_pair};
 ghost use Rattle.circ_rewrite.specs.Due.{IsRewriteRule};
 ghost use Rattle.circ_rewrite.specs.Plain.{Answers};
+ghost use Rattle.circ_nodes.specs.Built.{AreBuilt};
+ghost use Rattle.circ_due.specs.Chosen.{IsReady};
 ghost use Rattle.circ_conditional_norm.specs.Norm.{conditional_norm};
 ghost use Rattle.circ_memo.specs.Value.{AnswersValue};
 ghost use Rattle.circ_tries.specs.Store.{IsStore};
@@ -18,6 +21,7 @@ use circ_term::Term;
 use circ_theory::{Pair, Theory};
 use std::alloc::{AllocError, Global};
 use std::marker::Model;
+use std::mem;
 
 // What terms are rewritten by, and which of them are known to be normal. Contracts see a theory,
 // rules and assumptions.
@@ -45,6 +49,23 @@ impl<'a> Model for Trying<'a> {
     ghost view = { λ a. rewriting a.work.value.means };
 
     ghost invariant = { λ a. IsStore a.work.value.means a.work.value.store };
+}
+
+impl Work<'_> {
+    // Forgets what is known of terms, and the assumptions, and gives back what they took.
+    fn forget(&mut self)
+        ensures ready { (old new : List Tree) → IsReady old self.old.means
+            → IsReady new self.new.means }
+        ensures theory { self.new.means.theory.now ≡ self.old.means.theory.now }
+        ensures rules { self.new.means.rules.items ≡ self.old.means.rules.items }
+        ensures assumptions { self.new.means.assumptions ≡ [] }
+        ensures still { self.new.store.still.items ≡ [] }
+        ensures terms { (nodes : List Tree) → AreBuilt nodes self.new.store.terms }
+    {
+        self.means.forget();
+        let empty = Store::new(self.store.alloc);
+        drop(mem::replace(&mut self.store, empty));
+    }
 }
 
 impl<'a> Trying<'a> {
@@ -82,8 +103,7 @@ impl<'a> Trying<'a> {
         ensures { self.new ≡ record self.old { assumptions = [] } }
     {
         let work = &mut *self.work;
-        work.means.forget();
-        work.store = Store::new(work.store.alloc);
+        work.forget();
     }
 
     // Puts a rule last, and forgets what is known of terms, and the assumptions. If it runs out of
@@ -98,8 +118,7 @@ impl<'a> Trying<'a> {
         ensures err { OnErr result (self.new ≡ record self.old { assumptions = [] }) }
     {
         let work = &mut *self.work;
-        work.means.forget();
-        work.store = Store::new(work.store.alloc);
+        work.forget();
         work.means.push(rule)
     }
 

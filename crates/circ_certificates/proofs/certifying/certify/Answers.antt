@@ -1,7 +1,7 @@
 use Rattle.circ_proof.specs.Link.{resolved_links}
 use Rattle.circ_proof.specs.Plain.{plain_links}
 use Rattle.circ_steps.specs.Judging.{terms_at}
-use Rattle.circ_certificates.proofs.Certified.{slot_certified}
+use Rattle.circ_rules.proofs.Next.{slot_certified}
 use Rattle.circ_certificates.proofs.certifying.certify.Goals as goal
 
 pub returns-clause-exact : goal.returns-clause-exact

@@ -1,7 +1,7 @@
 use Rattle.std.proofs.Common.{ap}
 use Rattle.circ_nodes.specs.Named.{tree_at}
 use Rattle.circ_certificates.specs.declared.guard.Asked.{Asked}
-use Rattle.circ_certificates.specs.Covering.{terms_of}
+use Rattle.circ_certificates.specs.Covering.{numbered_terms}
 use Rattle.circ_certificates.proofs.Covering.{root_told}
 use Rattle.circ_certificates.proofs.guard.guarded.Goals as goal
 
@@ -11,4 +11,4 @@ holds-requires-clause-visit c = record { term = c.requires.term; bodies = rw c.n
 pub returns : goal.returns
 returns c =
     let a : Asked = record { rules = c.args.rules.now; nodes = c.args.nodes; id = c.args.id; sort = c.args.sort } in
-    root_told a (tree_at c.args.nodes.now c.args.term) (terms_of a c.new.result.items) (ap (terms_of a) c.new.ensures.items) c.holds.result c.holds.ensures.exact
+    root_told a (tree_at c.args.nodes.now c.args.term) (numbered_terms a c.new.result.items) (ap (numbered_terms a) c.new.ensures.items) c.holds.result c.holds.ensures.exact

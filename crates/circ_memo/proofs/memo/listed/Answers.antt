@@ -6,7 +6,7 @@ use Rattle.circ_memo.proofs.memo.listed.Goals as goal
 
 pub returns-clause-listed : goal.returns-clause-listed
 returns-clause-listed c = λ t n f.
-    let done = rw (c.new-path.ensures.items, c.new-traces.ensures.items) at (c.in_ok-list.ensures.lists t n) in (
+    let done = rw (c.new-path.ensures.items, c.new-traces.ensures.items) at (c.in_ok-done.ensures.lists t n) in (
       named_one c.args.store.now.nodes c.args.entry.value c.in_ok-term.field-0 f.value c.in_ok-term.ensures.named f.there,
-      lists_all (due_by c.args.means.now) c.args.entry.big c.args.entry.deep t done.0 f.value f.traces (plain_traces c.list.new.traces.items) done.2 done.1 f.form.reduces,
+      lists_all (due_by c.args.means.now) c.args.entry.big c.args.entry.deep t done.0 f.value f.traces (plain_traces c.list-done.new.traces.items) done.2 done.1 f.form.reduces,
     )

@@ -20,7 +20,7 @@ pub returns-in-Ok-clause-exact : goal.returns-in-Ok-clause-exact
 returns-in-Ok-clause-exact c = λ t n.
     let kept = c.in-Ok.ensures.settles t n in
     record {
-      named = named_later c.args.store.now.nodes c.settle.new.store.nodes c.args.number t c.settle.ensures.extends.grows n;
+      named = named_later c.args.store.now.nodes c.settle.new.store.nodes c.args.number t c.settle.ensures.worked.extends.grows n;
       there = c.in-Ok.ensures.there;
       form = kept.0.0;
       is = answers_form (due_by c.args.means.now) c.settle.new.store.nodes c.args.budget.now c.settle.new.budget t c.in-Ok.entry kept.0.0 kept.0.1 kept.1;

@@ -1,6 +1,4 @@
 use Rattle.circ_memo.proofs.normalising.normalise.Goals as goal
 
 pub returns-clause-exact : goal.returns-clause-exact
-returns-clause-exact c =
-    rw (c.in_ok-assume.ensures.theory, c.in_ok-assume.ensures.rules, c.in_ok-assume.ensures.assumptions, c.in_ok-memo.ensures, c.in_ok-share_rules.ensures)
-    at c.normal.ensures.exact
+returns-clause-exact c = rw (c.in_ok-memo.ensures, c.in_ok-share_rules.ensures) at c.normal_under-normal.ensures.exact

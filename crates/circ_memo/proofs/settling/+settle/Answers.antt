@@ -3,13 +3,13 @@ use Rattle.circ_nodes.specs.Named.{tree_at}
 use Rattle.circ_nodes.proofs.Numbers.{named_below, named_one, named_later, all_below, are_named_later, grows_self}
 use Rattle.circ_due.specs.Chosen.{due_by}
 use Rattle.circ_memo.specs.Settling.{IsPassing, HasPassed, IsToKeep, Stops, passed_count}
-use Rattle.circ_memo.specs.Working.{IsStore, Extends}
+use Rattle.circ_memo.specs.Working.{IsStore, Extends, HasWorked}
 use Rattle.circ_memo.specs.declared.store.Store.{Store}
 use Rattle.circ_memo.proofs.Arguments.{arg_at, arg_is, arg_inside, arg_measure, arg_small, passing_still, passing_stops, variable_way, within_of}
 use Rattle.circ_memo.proofs.Forms.{kept_later, passing_later, way_later, are_passed_later}
 use Rattle.circ_memo.proofs.Telling.{stays_self, way_kept_later, linked_on, number_more, has_passed_later, passed_stays, passed_next, passed_all}
 use Rattle.circ_memo.proofs.Stepping.{are_passed_in, passed_on, passed_chain, count_on, stops_on, way_stops}
-use Rattle.circ_memo.proofs.Stores.{store_later, store_kept, extends_self, extends_on, extends_by, are_linked_extends, depth_named_is}
+use Rattle.circ_memo.proofs.Stores.{store_later, store_kept, extends_self, extends_on, extends_by, worked_self, worked_later, are_linked_extends, depth_named_is}
 use Rattle.circ_memo.proofs.settling.+settle.Goals.{turn-After-keep_settled, settle-After-keep_steps}
 use Rattle.circ_memo.proofs.settling.+settle.Goals as goal
 
@@ -90,7 +90,7 @@ pub settle_arg-outgrow-requires-clause-there : goal.settle_arg-outgrow-requires-
 settle_arg-outgrow-requires-clause-there t c =
     let p = c.requires.passing.1 in
     all_below c.settle.new.store.nodes c.args.passing.now.args.items p.args
-    (are_named_later c.args.store.now.nodes c.settle.new.store.nodes c.args.passing.now.args.items p.args c.settle.ensures.extends.grows p.named)
+    (are_named_later c.args.store.now.nodes c.settle.new.store.nodes c.args.passing.now.args.items p.args c.settle.ensures.worked.extends.grows p.named)
 
 pub settle_arg-outgrow-requires-clause-new : goal.settle_arg-outgrow-requires-clause-new
 settle_arg-outgrow-requires-clause-new t c =
@@ -104,14 +104,24 @@ settle_arg-returns-in-Ok-clause-passes t c = λ u p.
     let new = c.settle.new.store.nodes in
     let a = tree_at c.args.store.now.nodes c.arg-arg.result in
     let kept = c.in-Ok.ensures.settles a c.known_at.ensures.named in
-    let later = passing_later due old new c.settle.ensures.extends.grows c.args.bounds u c.args.place c.args.passing.now p in
-    let named = named_later old new c.arg-arg.result a c.settle.ensures.extends.grows c.known_at.ensures.named in (
+    let later = passing_later due old new c.settle.ensures.worked.extends.grows c.args.bounds u c.args.place c.args.passing.now p in
+    let named = named_later old new c.arg-arg.result a c.settle.ensures.worked.extends.grows c.known_at.ensures.named in (
       c.pass.ensures.passes due c.args.bounds u a c.arg-arg.result later c.arg-arg.ensures named c.size-own.ensures.exact kept.0.0 (rw c.room-room.ensures at kept.0.1),
       omega (arith, c.pass.ensures.count, kept.1),
     )
 
-pub settle_arg-returns-in-Err-Outgrows-clause-store : goal.settle_arg-returns-in-Err-Outgrows-clause-store
-settle_arg-returns-in-Err-Outgrows-clause-store t c = store_later c.args.means.now c.settle.new.store _ c.outgrow.ensures.grows refl c.settle.ensures.store
+pub settle_arg-returns-then-is_still-clause-worked : goal.settle_arg-returns-then-is_still-clause-worked
+settle_arg-returns-then-is_still-clause-worked t c = worked_self c.args.means.now c.args.store.now c.args.budget.now c.requires.store
+
+pub settle_arg-returns-in-Ok-clause-worked : goal.settle_arg-returns-in-Ok-clause-worked
+settle_arg-returns-in-Ok-clause-worked t c = c.settle.ensures.worked
+
+pub settle_arg-returns-in-Err-Fault-clause-worked : goal.settle_arg-returns-in-Err-Fault-clause-worked
+settle_arg-returns-in-Err-Fault-clause-worked t c = c.settle.ensures.worked
+
+pub settle_arg-returns-in-Err-Outgrows-clause-worked : goal.settle_arg-returns-in-Err-Outgrows-clause-worked
+settle_arg-returns-in-Err-Outgrows-clause-worked t c =
+    worked_later c.args.means.now c.args.store.now c.settle.new.store _ c.args.budget.now c.settle.new.budget c.settle.new.budget c.settle.ensures.worked c.outgrow.ensures.grows refl (omega arith)
 
 pub settle_arg-returns-in-Err-Outgrows-clause-passes : goal.settle_arg-returns-in-Err-Outgrows-clause-passes
 settle_arg-returns-in-Err-Outgrows-clause-passes t c = λ u p.
@@ -120,8 +130,8 @@ settle_arg-returns-in-Err-Outgrows-clause-passes t c = λ u p.
     let new = c.settle.new.store.nodes in
     let a = tree_at c.args.store.now.nodes c.arg-arg.result in
     let s = rw c.in-Err-Outgrows.field-0-is at (c.in-Err-Outgrows.ensures.settles a c.known_at.ensures.named) in
-    let later = passing_later due old new c.settle.ensures.extends.grows c.args.bounds u c.args.place c.args.passing.now p in
-    let named = named_later old new c.arg-arg.result a c.settle.ensures.extends.grows c.known_at.ensures.named in
+    let later = passing_later due old new c.settle.ensures.worked.extends.grows c.args.bounds u c.args.place c.args.passing.now p in
+    let named = named_later old new c.arg-arg.result a c.settle.ensures.worked.extends.grows c.known_at.ensures.named in
     c.outgrow.ensures.stops due c.args.bounds u a c.arg-arg.result c.args.budget.now c.settle.new.budget later c.arg-arg.ensures named
     (rw c.size-own.ensures.exact at (rw c.room-room.ensures at s))
 
@@ -132,8 +142,8 @@ settle_arg-returns-in-Err-Fault-clause-passes t c = λ u p.
     let new = c.settle.new.store.nodes in
     let a = tree_at c.args.store.now.nodes c.arg-arg.result in
     let s = rw c.in-Err-Fault.field-0-is at (c.in-Err-Fault.ensures.settles a c.known_at.ensures.named) in
-    let later = passing_later due old new c.settle.ensures.extends.grows c.args.bounds u c.args.place c.args.passing.now p in
-    let named = named_later old new c.arg-arg.result a c.settle.ensures.extends.grows c.known_at.ensures.named in
+    let later = passing_later due old new c.settle.ensures.worked.extends.grows c.args.bounds u c.args.place c.args.passing.now p in
+    let named = named_later old new c.arg-arg.result a c.settle.ensures.worked.extends.grows c.known_at.ensures.named in
     passing_stops due new c.args.bounds u c.args.place c.args.passing.now later c.args.budget.now c.settle.new.budget _ a c.in-Err-Fault.fault
     (arg_is due new c.args.bounds u c.args.place c.args.passing.now later c.arg-arg.result a c.arg-arg.ensures named) (omega arith)
     (rw c.size-own.ensures.exact at (rw c.room-room.ensures at s))
@@ -178,8 +188,8 @@ settle_args-loop-place-preserved t c =
     let i = c.loop-place.invariant in
     let passes = c.in-Ok.ensures.passes i.passing.0 i.passing.2 in
     record {
-      store = c.settle_arg.ensures.store;
-      extends = extends_on c.args.store.now c.loop-place.store c.settle_arg.new.store i.extends c.settle_arg.ensures.extends;
+      store = c.settle_arg.ensures.worked.store;
+      extends = extends_on c.args.store.now c.loop-place.store c.settle_arg.new.store i.extends c.settle_arg.ensures.worked.extends;
       passing = (i.passing.0, i.passing.1, passes.0, c.in-Ok.ensures.kept i.passing.0 i.passing.3);
       len = c.settle_arg.ensures.len ∙ i.len;
       count = omega (arith, passes.1, i.count);
@@ -190,8 +200,27 @@ settle_args-finish-requires-clause-there t c =
     let p = c.loop-place.invariant.passing.2 in
     all_below c.loop-place.store.nodes c.loop-place.passing.args.items p.args p.named
 
-pub settle_args-returns-clause-store : goal.settle_args-returns-clause-store
-settle_args-returns-clause-store t c = store_later c.args.means.now c.loop-place.store _ c.finish.ensures.grows refl c.loop-place.invariant.store
+pub settle_args-returns-in_err-passing-clause-worked : goal.settle_args-returns-in_err-passing-clause-worked
+settle_args-returns-in_err-passing-clause-worked t c = worked_self c.args.means.now c.args.store.now c.args.budget.now c.requires.store
+
+pub settle_args-returns-in_default-clause-worked : goal.settle_args-returns-in_default-clause-worked
+settle_args-returns-in_default-clause-worked t c = worked_self c.args.means.now c.args.store.now c.args.budget.now c.requires.store
+
+pub settle_args-returns-in-Err-clause-worked : goal.settle_args-returns-in-Err-clause-worked
+settle_args-returns-in-Err-clause-worked t c =
+    let i = c.loop-place.invariant in
+    let w = c.settle_arg.ensures.worked in
+    record { store = w.store; extends = extends_on c.args.store.now c.loop-place.store c.settle_arg.new.store i.extends w.extends; less = omega (arith, w.less, i.count) }
+
+pub settle_args-returns-clause-worked : goal.settle_args-returns-clause-worked
+settle_args-returns-clause-worked t c =
+    let i = c.loop-place.invariant in
+    let mid = c.loop-place.store in
+    record {
+      store = store_later c.args.means.now mid _ c.finish.ensures.grows refl i.store;
+      extends = extends_on c.args.store.now mid _ i.extends (extends_by mid _ c.finish.ensures.grows (stays_self mid.entries));
+      less = omega (arith, i.count);
+    }
 
 pub settle_args-returns-clause-finds : goal.settle_args-returns-clause-finds
 settle_args-returns-clause-finds t c = λ u n.
@@ -216,28 +245,33 @@ settled t c =
     let none = rw c.in-Ok-None.field-0-is at (c.in-Ok-None.ensures.advances way.0 way.1.there way.1.readies.settled) in
     let before : Store = record { alloc = a.alloc; nodes = c.advance.new.nodes; entries = a.entries } in
     let kept =
-    c.keep_settled.ensures.kept due c.args.bounds i.0 way.0 (kept_later due a.nodes c.advance.new.nodes g a.entries c.settle_args.ensures.store.kept)
-    (named_later a.nodes c.advance.new.nodes c.args.here i.0 g (named_later old.nodes a.nodes c.args.here i.0 c.settle_args.ensures.extends.grows i.1))
+    c.keep_settled.ensures.kept due c.args.bounds i.0 way.0 (kept_later due a.nodes c.advance.new.nodes g a.entries c.settle_args.ensures.worked.store.kept)
+    (named_later a.nodes c.advance.new.nodes c.args.here i.0 g (named_later old.nodes a.nodes c.args.here i.0 c.settle_args.ensures.worked.extends.grows i.1))
     (way_later due a.nodes c.advance.new.nodes g c.args.bounds i.0 c.in-Ok.way way.0 way.1) none.0
     (way_kept_later a.entries a.nodes c.advance.new.nodes g c.args.here i.0 c.in-Ok.way.ready c.in-Ok.way.count (c.in-Ok.ensures.kept i.0 i.1)) in (
-      store_kept c.args.means.now before c.keep_settled.new.store c.keep_settled.ensures.nodes kept.0 (store_later c.args.means.now a before g refl c.settle_args.ensures.store),
-      extends_on old a c.keep_settled.new.store c.settle_args.ensures.extends (extends_by a c.keep_settled.new.store (rw c.keep_settled.ensures.nodes g) kept.1),
+      store_kept c.args.means.now before c.keep_settled.new.store c.keep_settled.ensures.nodes kept.0 (store_later c.args.means.now a before g refl c.settle_args.ensures.worked.store),
+      extends_on old a c.keep_settled.new.store c.settle_args.ensures.worked.extends (extends_by a c.keep_settled.new.store (rw c.keep_settled.ensures.nodes g) kept.1),
     )
 
-pub turn-returns-in_err-keep_settled-in-Ok-None-clause-store : goal.turn-returns-in_err-keep_settled-in-Ok-None-clause-store
-turn-returns-in_err-keep_settled-in-Ok-None-clause-store t c = (settled t (goal.at.turn-returns-in_err-keep_settled-in-Ok-None-clause-store t c).After-keep_settled).0
+-- and what is left of the budget then
+settled_worked : (t : ℕ) (c : turn-After-keep_settled t) → HasWorked c.args.means.now c.args.store.now c.keep_settled.new.store c.args.budget.now c.advance.new.budget
+settled_worked t c =
+    let x = settled t c in
+    record { store = x.0; extends = x.1; less = omega (arith, c.settle_args.ensures.worked.less, c.advance.ensures.less) }
 
-pub turn-returns-in_err-keep_settled-in-Ok-None-clause-extends : goal.turn-returns-in_err-keep_settled-in-Ok-None-clause-extends
-turn-returns-in_err-keep_settled-in-Ok-None-clause-extends t c = (settled t (goal.at.turn-returns-in_err-keep_settled-in-Ok-None-clause-extends t c).After-keep_settled).1
+pub turn-returns-in_err-keep_settled-in-Ok-None-clause-worked : goal.turn-returns-in_err-keep_settled-in-Ok-None-clause-worked
+turn-returns-in_err-keep_settled-in-Ok-None-clause-worked t c = settled_worked t (goal.at.turn-returns-in_err-keep_settled-in-Ok-None-clause-worked t c).After-keep_settled
 
-pub turn-returns-in_ok-keep_settled-in-Ok-None-clause-store : goal.turn-returns-in_ok-keep_settled-in-Ok-None-clause-store
-turn-returns-in_ok-keep_settled-in-Ok-None-clause-store t c = (settled t (goal.at.turn-returns-in_ok-keep_settled-in-Ok-None-clause-store t c).After-keep_settled).0
+pub turn-returns-in_ok-keep_settled-in-Ok-None-clause-worked : goal.turn-returns-in_ok-keep_settled-in-Ok-None-clause-worked
+turn-returns-in_ok-keep_settled-in-Ok-None-clause-worked t c = settled_worked t (goal.at.turn-returns-in_ok-keep_settled-in-Ok-None-clause-worked t c).After-keep_settled
 
-pub turn-returns-in_ok-keep_settled-in-Ok-None-clause-extends : goal.turn-returns-in_ok-keep_settled-in-Ok-None-clause-extends
-turn-returns-in_ok-keep_settled-in-Ok-None-clause-extends t c = (settled t (goal.at.turn-returns-in_ok-keep_settled-in-Ok-None-clause-extends t c).After-keep_settled).1
+pub turn-returns-in-Err-clause-worked : goal.turn-returns-in-Err-clause-worked
+turn-returns-in-Err-clause-worked t c = c.settle_args.ensures.worked
 
-pub turn-returns-in-Err-advance-clause-store : goal.turn-returns-in-Err-advance-clause-store
-turn-returns-in-Err-advance-clause-store t c = store_later c.args.means.now c.settle_args.new.store _ c.advance.ensures.grows refl c.settle_args.ensures.store
+pub turn-returns-in-Err-advance-clause-worked : goal.turn-returns-in-Err-advance-clause-worked
+turn-returns-in-Err-advance-clause-worked t c =
+    worked_later c.args.means.now c.args.store.now c.settle_args.new.store _ c.args.budget.now c.settle_args.new.budget c.advance.new.budget c.settle_args.ensures.worked c.advance.ensures.grows refl
+    c.advance.ensures.less
 
 pub turn-returns-in-Err-advance-clause-turns : goal.turn-returns-in-Err-advance-clause-turns
 turn-returns-in-Err-advance-clause-turns t c = λ u n.
@@ -256,8 +290,10 @@ turn-returns-in_ok-keep_settled-in-Ok-None-clause-turns t c = λ u n.
       omega (arith, c.in_ok-keep_settled-in-Ok-None.ensures.count, none.1, way.2),
     )
 
-pub turn-returns-in-Ok-Some-clause-store : goal.turn-returns-in-Ok-Some-clause-store
-turn-returns-in-Ok-Some-clause-store t c = store_later c.args.means.now c.settle_args.new.store _ c.advance.ensures.grows refl c.settle_args.ensures.store
+pub turn-returns-in-Ok-Some-clause-worked : goal.turn-returns-in-Ok-Some-clause-worked
+turn-returns-in-Ok-Some-clause-worked t c =
+    worked_later c.args.means.now c.args.store.now c.settle_args.new.store _ c.args.budget.now c.settle_args.new.budget c.advance.new.budget c.settle_args.ensures.worked c.advance.ensures.grows refl
+    c.advance.ensures.less
 
 pub turn-returns-in-Ok-Some-clause-turns : goal.turn-returns-in-Ok-Some-clause-turns
 turn-returns-in-Ok-Some-clause-turns t c = λ u n.
@@ -270,7 +306,7 @@ turn-returns-in-Ok-Some-clause-turns t c = λ u n.
       record {
         ready = way.0;
         replacement = made.0;
-        here = named_later a c.advance.new.nodes c.args.here u g (named_later c.args.store.now.nodes a c.args.here u c.settle_args.ensures.extends.grows n);
+        here = named_later a c.advance.new.nodes c.args.here u g (named_later c.args.store.now.nodes a c.args.here u c.settle_args.ensures.worked.extends.grows n);
         way = way_later due a c.advance.new.nodes g c.args.bounds u c.in-Ok.way way.0 way.1;
         is_due = made.1;
         next = made.2;
@@ -296,7 +332,7 @@ settle-keep_steps-requires-clause-there t c =
     let due = due_by c.args.means.now in
     let w = c.loop-stop.invariant.way in
     are_passed_in due c.turn.new.store.nodes c.args.bounds w.0 c.loop-stop.steps.items w.1
-    (are_passed_later due c.loop-stop.store.nodes c.turn.new.store.nodes c.turn.ensures.extends.grows c.args.bounds w.0 c.loop-stop.steps.items w.1 w.4)
+    (are_passed_later due c.loop-stop.store.nodes c.turn.new.store.nodes c.turn.ensures.worked.extends.grows c.args.bounds w.0 c.loop-stop.steps.items w.1 w.4)
 
 pub settle-keep_steps-requires-clause-count : goal.settle-keep_steps-requires-clause-count
 settle-keep_steps-requires-clause-count t c =
@@ -311,28 +347,28 @@ stepped t c =
     let i = c.loop-stop.invariant in
     let w = i.way in
     let mid = c.turn.new.store in
-    let e = c.turn.ensures.extends in
+    let e = c.turn.ensures.worked.extends in
     let last = rw c.in-Ok-Settled.field-0-is at (c.in-Ok-Settled.ensures.turns w.1 w.3) in
     let kept =
-    c.keep_steps.ensures.kept due c.args.bounds w.0 w.1 c.args.number c.loop-stop.here c.turn.ensures.store.kept
+    c.keep_steps.ensures.kept due c.args.bounds w.0 w.1 c.args.number c.loop-stop.here c.turn.ensures.worked.store.kept
     (are_passed_later due c.loop-stop.store.nodes mid.nodes e.grows c.args.bounds w.0 c.loop-stop.steps.items w.1 w.4) last.0.0 last.0.1
     (are_linked_extends c.loop-stop.store mid e c.args.number c.loop-stop.steps.items c.loop-stop.here i.linked) (rw c.in-Ok-Settled.field-0-is at c.in-Ok-Settled.ensures.kept) in (
-      store_kept c.args.means.now mid c.keep_steps.new.store c.keep_steps.ensures.nodes kept.0 c.turn.ensures.store,
+      store_kept c.args.means.now mid c.keep_steps.new.store c.keep_steps.ensures.nodes kept.0 c.turn.ensures.worked.store,
       extends_on c.args.store.now c.loop-stop.store c.keep_steps.new.store i.extends
           (extends_on c.loop-stop.store mid c.keep_steps.new.store e (extends_by mid c.keep_steps.new.store (rw c.keep_steps.ensures.nodes (grows_self mid.nodes)) kept.1)),
     )
 
-pub settle-returns-in_err-keep_steps-in-Ok-Settled-clause-store : goal.settle-returns-in_err-keep_steps-in-Ok-Settled-clause-store
-settle-returns-in_err-keep_steps-in-Ok-Settled-clause-store t c = (stepped t (goal.at.settle-returns-in_err-keep_steps-in-Ok-Settled-clause-store t c).After-keep_steps).0
+-- and what is left of the budget then
+stepped_worked : (t : ℕ) (c : settle-After-keep_steps t) → HasWorked c.args.means.now c.args.store.now c.keep_steps.new.store c.args.budget.now c.turn.new.budget
+stepped_worked t c =
+    let x = stepped t c in
+    record { store = x.0; extends = x.1; less = omega (arith, c.turn.ensures.worked.less, c.loop-stop.invariant.count) }
 
-pub settle-returns-in_err-keep_steps-in-Ok-Settled-clause-extends : goal.settle-returns-in_err-keep_steps-in-Ok-Settled-clause-extends
-settle-returns-in_err-keep_steps-in-Ok-Settled-clause-extends t c = (stepped t (goal.at.settle-returns-in_err-keep_steps-in-Ok-Settled-clause-extends t c).After-keep_steps).1
+pub settle-returns-in_err-keep_steps-in-Ok-Settled-clause-worked : goal.settle-returns-in_err-keep_steps-in-Ok-Settled-clause-worked
+settle-returns-in_err-keep_steps-in-Ok-Settled-clause-worked t c = stepped_worked t (goal.at.settle-returns-in_err-keep_steps-in-Ok-Settled-clause-worked t c).After-keep_steps
 
-pub settle-returns-in-Ok-Settled-clause-store : goal.settle-returns-in-Ok-Settled-clause-store
-settle-returns-in-Ok-Settled-clause-store t c = (stepped t (goal.at.settle-returns-in-Ok-Settled-clause-store t c).After-keep_steps).0
-
-pub settle-returns-in-Ok-Settled-clause-extends : goal.settle-returns-in-Ok-Settled-clause-extends
-settle-returns-in-Ok-Settled-clause-extends t c = (stepped t (goal.at.settle-returns-in-Ok-Settled-clause-extends t c).After-keep_steps).1
+pub settle-returns-in-Ok-Settled-clause-worked : goal.settle-returns-in-Ok-Settled-clause-worked
+settle-returns-in-Ok-Settled-clause-worked t c = stepped_worked t (goal.at.settle-returns-in-Ok-Settled-clause-worked t c).After-keep_steps
 
 pub settle-returns-in-Ok-Settled-clause-there : goal.settle-returns-in-Ok-Settled-clause-there
 settle-returns-in-Ok-Settled-clause-there t c =
@@ -340,9 +376,9 @@ settle-returns-in-Ok-Settled-clause-there t c =
     let i = c.loop-stop.invariant in
     let w = i.way in
     let mid = c.turn.new.store in
-    let e = c.turn.ensures.extends in
+    let e = c.turn.ensures.worked.extends in
     let last = rw c.in-Ok-Settled.field-0-is at (c.in-Ok-Settled.ensures.turns w.1 w.3) in
-    c.in_ok-keep_steps-in-Ok-Settled.ensures.there due c.args.bounds w.0 w.1 c.args.number c.loop-stop.here c.turn.ensures.store.kept
+    c.in_ok-keep_steps-in-Ok-Settled.ensures.there due c.args.bounds w.0 w.1 c.args.number c.loop-stop.here c.turn.ensures.worked.store.kept
     (are_passed_later due c.loop-stop.store.nodes mid.nodes e.grows c.args.bounds w.0 c.loop-stop.steps.items w.1 w.4) last.0.0 last.0.1
     (are_linked_extends c.loop-stop.store mid e c.args.number c.loop-stop.steps.items c.loop-stop.here i.linked) (rw c.in-Ok-Settled.field-0-is at c.in-Ok-Settled.ensures.kept)
 
@@ -354,7 +390,7 @@ settle-returns-in-Ok-Settled-clause-settles t c = λ u n.
     let settled = rw c.in-Ok-Settled.field-0-is at (c.in-Ok-Settled.ensures.turns w.1 w.3) in (
       subst (λ x. IsToKeep due c.keep_steps.new.store.nodes c.args.bounds x c.in_ok-keep_steps-in-Ok-Settled.field-0) same
           (c.in_ok-keep_steps-in-Ok-Settled.ensures.form due c.args.bounds w.0 w.1
-          (are_passed_later due c.loop-stop.store.nodes c.turn.new.store.nodes c.turn.ensures.extends.grows c.args.bounds w.0 c.loop-stop.steps.items w.1 w.4) settled.0.0 settled.0.1),
+          (are_passed_later due c.loop-stop.store.nodes c.turn.new.store.nodes c.turn.ensures.worked.extends.grows c.args.bounds w.0 c.loop-stop.steps.items w.1 w.4) settled.0.0 settled.0.1),
       omega (arith, c.in_ok-keep_steps-in-Ok-Settled.ensures.count, settled.1, c.loop-stop.invariant.count),
     )
 
@@ -365,10 +401,10 @@ settle-loop-stop-preserved t c =
     let w = i.way in
     let items = c.in_ok-push-in-Ok-Stepped.ensures.items in
     let stepped = rw c.in-Ok-Stepped.field-0-is at (c.in-Ok-Stepped.ensures.turns w.1 w.3) in
-    let before = are_passed_later due c.loop-stop.store.nodes c.turn.new.store.nodes c.turn.ensures.extends.grows c.args.bounds w.0 c.loop-stop.steps.items w.1 w.4 in
+    let before = are_passed_later due c.loop-stop.store.nodes c.turn.new.store.nodes c.turn.ensures.worked.extends.grows c.args.bounds w.0 c.loop-stop.steps.items w.1 w.4 in
     record {
-      store = c.turn.ensures.store;
-      extends = extends_on c.args.store.now c.loop-stop.store c.turn.new.store i.extends c.turn.ensures.extends;
+      store = c.turn.ensures.worked.store;
+      extends = extends_on c.args.store.now c.loop-stop.store c.turn.new.store i.extends c.turn.ensures.worked.extends;
       way = (
         w.0,
         stepped.0,
@@ -380,7 +416,7 @@ settle-loop-stop-preserved t c =
       linked =
           rw items
           (linked_on c.turn.new.store.nodes c.turn.new.store.entries c.args.number c.loop-stop.steps.items c.loop-stop.here c.in-Ok-Stepped.step
-          (are_linked_extends c.loop-stop.store c.turn.new.store c.turn.ensures.extends c.args.number c.loop-stop.steps.items c.loop-stop.here i.linked) (rw c.in-Ok-Stepped.field-0-is at c.in-Ok-Stepped.ensures.kept));
+          (are_linked_extends c.loop-stop.store c.turn.new.store c.turn.ensures.worked.extends c.args.number c.loop-stop.steps.items c.loop-stop.here i.linked) (rw c.in-Ok-Stepped.field-0-is at c.in-Ok-Stepped.ensures.kept));
       count = omega (arith, ap passed_count items, count_on c.loop-stop.steps.items c.in-Ok-Stepped.step, stepped.2, i.count);
       below = omega (arith, depth_named_is c.turn.new.store.nodes c.in-Ok-Stepped.step.next stepped.0 stepped.1.next, stepped.1.shallow, w.5.deep, stepped.2, i.count);
     }
@@ -395,7 +431,7 @@ pub settle_arg-returns-in-Ok-clause-kept : goal.settle_arg-returns-in-Ok-clause-
 settle_arg-returns-in-Ok-clause-kept t c = λ u h.
     let old = c.args.store.now in
     let new = c.settle.new.store in
-    let e = c.settle.ensures.extends in
+    let e = c.settle.ensures.worked.extends in
     passed_next new.nodes new.entries u c.args.place c.args.passing.now c.pass.new.self c.arg-arg.result
     (passed_stays old.entries new.entries e.stays new.nodes u c.args.place c.args.passing.now (has_passed_later old.entries old.nodes new.nodes e.grows u c.args.place c.args.passing.now h))
     c.arg-arg.ensures
@@ -419,7 +455,7 @@ turn-returns-in-Ok-Some-clause-kept t c =
     record {
       here = refl;
       term = i.0;
-      named = named_later a.nodes c.advance.new.nodes c.args.here i.0 g (named_later c.args.store.now.nodes a.nodes c.args.here i.0 c.settle_args.ensures.extends.grows i.1);
+      named = named_later a.nodes c.advance.new.nodes c.args.here i.0 g (named_later c.args.store.now.nodes a.nodes c.args.here i.0 c.settle_args.ensures.worked.extends.grows i.1);
       way = way_kept_later a.entries a.nodes c.advance.new.nodes g c.args.here i.0 c.in-Ok.way.ready c.in-Ok.way.count (c.in-Ok.ensures.kept i.0 i.1);
     }
 
@@ -450,34 +486,14 @@ settle-loop-stop-smaller t c =
 pub turn-settle_args-requires : goal.turn-settle_args-requires
 turn-settle_args-requires t c = (omega arith, (c.requires.store, (c.requires.inside, c.requires.fits)))
 
-pub settle_arg-returns-in-Err-Outgrows-clause-extends : goal.settle_arg-returns-in-Err-Outgrows-clause-extends
-settle_arg-returns-in-Err-Outgrows-clause-extends t c =
-    let mid = c.settle.new.store in
-    extends_on c.args.store.now mid _ c.settle.ensures.extends (extends_by mid _ c.outgrow.ensures.grows (stays_self mid.entries))
+pub settle-returns-in-Err-clause-worked : goal.settle-returns-in-Err-clause-worked
+settle-returns-in-Err-clause-worked t c =
+    let i = c.loop-stop.invariant in
+    let w = c.turn.ensures.worked in
+    record { store = w.store; extends = extends_on c.args.store.now c.loop-stop.store c.turn.new.store i.extends w.extends; less = omega (arith, w.less, i.count) }
 
-pub settle_args-returns-in-Err-clause-extends : goal.settle_args-returns-in-Err-clause-extends
-settle_args-returns-in-Err-clause-extends t c =
-    extends_on c.args.store.now c.loop-place.store c.settle_arg.new.store c.loop-place.invariant.extends c.settle_arg.ensures.extends
-
-pub settle_args-returns-clause-extends : goal.settle_args-returns-clause-extends
-settle_args-returns-clause-extends t c =
-    let mid = c.loop-place.store in
-    extends_on c.args.store.now mid _ c.loop-place.invariant.extends (extends_by mid _ c.finish.ensures.grows (stays_self mid.entries))
-
-pub turn-returns-in-Err-advance-clause-extends : goal.turn-returns-in-Err-advance-clause-extends
-turn-returns-in-Err-advance-clause-extends t c =
-    let mid = c.settle_args.new.store in
-    extends_on c.args.store.now mid _ c.settle_args.ensures.extends (extends_by mid _ c.advance.ensures.grows (stays_self mid.entries))
-
-pub turn-returns-in-Ok-Some-clause-extends : goal.turn-returns-in-Ok-Some-clause-extends
-turn-returns-in-Ok-Some-clause-extends t c =
-    let mid = c.settle_args.new.store in
-    extends_on c.args.store.now mid _ c.settle_args.ensures.extends (extends_by mid _ c.advance.ensures.grows (stays_self mid.entries))
-
-pub settle-returns-in-Err-clause-extends : goal.settle-returns-in-Err-clause-extends
-settle-returns-in-Err-clause-extends t c =
-    extends_on c.args.store.now c.loop-stop.store c.turn.new.store c.loop-stop.invariant.extends c.turn.ensures.extends
-
-pub settle-returns-in_err-push-in-Ok-Stepped-clause-extends : goal.settle-returns-in_err-push-in-Ok-Stepped-clause-extends
-settle-returns-in_err-push-in-Ok-Stepped-clause-extends t c =
-    extends_on c.args.store.now c.loop-stop.store c.turn.new.store c.loop-stop.invariant.extends c.turn.ensures.extends
+pub settle-returns-in_err-push-in-Ok-Stepped-clause-worked : goal.settle-returns-in_err-push-in-Ok-Stepped-clause-worked
+settle-returns-in_err-push-in-Ok-Stepped-clause-worked t c =
+    let i = c.loop-stop.invariant in
+    let w = c.turn.ensures.worked in
+    record { store = w.store; extends = extends_on c.args.store.now c.loop-stop.store c.turn.new.store i.extends w.extends; less = omega (arith, w.less, i.count) }

@@ -1,6 +1,5 @@
 use Rattle.std.proofs.Common.{◌≡◌, ◌≤◌, ◌+◌, ◌-◌, ◌*◌, List, [], ◌∷◌, drop, map, length}
 use Rattle.circ_term.specs.Tree.{Tree, args_of}
-use Rattle.circ_term.specs.Growing.{Grows}
 use Rattle.circ_term.specs.Subst.{substitution_of}
 use Rattle.circ_theory.specs.Pairs.{plain_pair}
 use Rattle.circ_rewrite.specs.Replacement.{Traced}
@@ -9,7 +8,7 @@ use Rattle.circ_due.specs.Bounds.{bounds_in}
 use Rattle.circ_conditional_norm.specs.Tries.{conditions_hold, rules_tried}
 use Rattle.circ_conditional_norm.specs.Within.{IsInRoom}
 use Rattle.circ_conditional_norm.specs.Work.{map_found}
-use Rattle.circ_tries.specs.Store.{IsStore}
+use Rattle.circ_tries.specs.Store.{HasWorked}
 use Rattle.circ_tries.specs.Turning.{plain_room, GoesOn, IsAlike, Writes}
 use Rattle.circ_tries.specs.Trying.{conditions_by, due_in, norm_by, passes_before}
 use Rattle.circ_tries.proofs.Measures.{depth_at}
@@ -51,13 +50,11 @@ decreases-try_condition l = l.budget.now * 20020 + 16009
 
 abbrev pub invariant-settle-loop-stop : goal.invariant-settle-loop-stop
 invariant-settle-loop-stop l = record {
-  store : IsStore l.means l.store;
-  grows : Grows l.initial.store.nodes l.store.nodes;
+  worked : HasWorked l.means l.initial.store l.store l.initial.budget l.budget;
   way :
       (t u : Tree) × (vs : List Traced) × IsNamed l.initial.store.nodes l.number t × IsNamed l.store.nodes l.here u
       × GoesOn (due_in l.means l.tries) l.room [] t l.initial.budget [] u vs l.budget × Writes l.initial.course.path.items l.initial.course l.course vs
       × IsInRoom (plain_room l.room) u;
-  less : l.budget ≤ l.initial.budget;
   below : l.budget * 20020 + 16 * depth_at l.store.nodes l.here ≤ l.initial.budget * 20020 + 16 * depth_at l.initial.store.nodes l.number;
 }
 
@@ -66,21 +63,17 @@ decreases-settle-loop-stop l = l.budget
 
 abbrev pub invariant-settle_args-loop-place : goal.invariant-settle_args-loop-place
 invariant-settle_args-loop-place l = record {
-  store : IsStore l.means l.store;
-  grows : Grows l.initial.store.nodes l.store.nodes;
+  worked : HasWorked l.means l.initial.store l.store l.initial.budget l.budget;
   way :
       (t u : Tree) × (vs : List Traced) × IsNamed l.initial.store.nodes l.number t × IsNamed l.store.nodes l.here u
       × GoesOn (due_in l.means l.tries) l.room [] t l.initial.budget (l.place ∷ []) u vs l.budget
       × IsAlike t u × Writes l.initial.course.path.items l.initial.course l.course vs × IsInRoom (plain_room l.room) u × (length (args_of t) ≡ l.len);
-  less : l.budget ≤ l.initial.budget;
   below : l.budget * 20020 + 16 * depth_at l.store.nodes l.here ≤ l.initial.budget * 20020 + 16 * depth_at l.initial.store.nodes l.number;
 }
 
 abbrev pub invariant-try_rules-loop-store : goal.invariant-try_rules-loop-store
 invariant-try_rules-loop-store l = record {
-  store : IsStore l.means l.store;
-  grows : Grows l.initial.store.nodes l.store.nodes;
-  less : l.budget ≤ l.initial.budget;
+  worked : HasWorked l.means l.initial.store l.store l.initial.budget l.budget;
   tried :
       (t : Tree) → IsNamed l.initial.store.nodes l.number t
       → rules_tried (conditions_by l.means l.tries) l.means.rules.items l.initial.budget t
@@ -92,9 +85,7 @@ decreases-try_rules-loop-store l = length l.means.rules.items - l.from
 
 abbrev pub invariant-try_conditions-loop-cond : goal.invariant-try_conditions-loop-cond
 invariant-try_conditions-loop-cond l = record {
-  store : IsStore l.means l.store;
-  grows : Grows l.initial.store.nodes l.store.nodes;
-  less : l.budget ≤ l.initial.budget;
+  worked : HasWorked l.means l.initial.store l.store l.initial.budget l.budget;
   held :
       conditions_hold (norm_by l.means l.tries) (substitution_of (bounds_in l.initial.store.nodes l.given)) (map plain_pair l.conds) l.initial.budget
       ≡ map_found (passes_before l.passes.items)

@@ -5,7 +5,7 @@ use Rattle.circ_term.proofs.Trees.{list_of-trees_of}
 use Rattle.circ_nodes.specs.Named.{tree_at}
 use Rattle.circ_nodes.proofs.Located.{tree_named}
 use Rattle.circ_certificates.specs.declared.guard.Visit.{Visit}
-use Rattle.circ_certificates.specs.Covering.{terms_of, begun, IsCovered, AreCovered}
+use Rattle.circ_certificates.specs.Covering.{numbered_terms, begun, IsCovered, AreCovered}
 use Rattle.circ_certificates.proofs.Covering.{ground_covered, variable_covered, application_covered, if_told}
 use Rattle.circ_certificates.proofs.Members.{above_least, above_each, all_there, args_there, args_counted}
 use Rattle.circ_certificates.proofs.Seeing.{seen_holds, seen_put, hold_next, hold_stops, hold_all}
@@ -17,7 +17,7 @@ pub holds-returns-then-is_ground-clause-exact : goal.holds-returns-then-is_groun
 holds-returns-then-is_ground-clause-exact t c =
     let a = c.args.self.now in
     let v = c.args.visit in
-    ((λ y. ground_covered a (v.is_special ≡ true) (terms_of a v.bodies.items) (tree_at a.nodes.now v.term) (sym c.is_ground.ensures ∙ c.if-is_ground.true)), (λ g. refl))
+    ((λ y. ground_covered a (v.is_special ≡ true) (numbered_terms a v.bodies.items) (tree_at a.nodes.now v.term) (sym c.is_ground.ensures ∙ c.if-is_ground.true)), (λ g. refl))
 
 pub holds-returns-then-contains-clause-exact : goal.holds-returns-then-contains-clause-exact
 holds-returns-then-contains-clause-exact t c =
@@ -51,11 +51,11 @@ holds_below-returns-in-Variable-clause-exact t c =
     let r = c.at_variable.result in
     let u = tree_at a.nodes.now v.term in
     let e : u ≡ Var x.number x.sort = x.ensures.shape u (tree_named a.nodes.now v.term c.requires.visit.term) in
-    let bs = terms_of a v.bodies.items in
-    let cs = terms_of a c.in_ok-bodies.bodies.items in
+    let bs = numbered_terms a v.bodies.items in
+    let cs = numbered_terms a c.in_ok-bodies.bodies.items in
     let is : cs ≡ bs ++ begun a v.is_special (Var x.number x.sort) a.rules.theory.now.derivatives
     = c.in_ok-bodies.ensures.bodies ∙ ap (λ y. bs ++ begun a v.is_special y a.rules.theory.now.derivatives) e in
-    let P : List ℕ → Type 0 = λ ns. IsTrue r ↔ (Var x.number x.sort ≡ Var a.id a.sort → (v.is_special ≡ true) ⊎ Contains (terms_of a ns) (Var 0 a.sort)) in
+    let P : List ℕ → Type 0 = λ ns. IsTrue r ↔ (Var x.number x.sort ≡ Var a.id a.sort → (v.is_special ≡ true) ⊎ Contains (numbered_terms a ns) (Var 0 a.sort)) in
     let Q : Tree → Type 0 = λ y. IsTrue r ↔ IsCovered a (v.is_special ≡ true) bs y in
     subst Q (sym e) (variable_covered a c.known.ensures v.is_special x.number x.sort bs cs is r (subst P c.as_slice.ensures c.at_variable.ensures))
 
@@ -84,17 +84,17 @@ holds_below-returns-clause-exact t c =
     let v = c.args.visit.now in
     let x = c.in-Application in
     let u = tree_at a.nodes.now v.term in
-    let us = terms_of a x.args.now in
+    let us = numbered_terms a x.args.now in
     let e = (args_there a.nodes.now v.term x.op x.sort x.args.now c.requires.visit.term x.ensures.shape).1 in
-    let bs = terms_of a v.bodies.items in
-    let cs = terms_of a c.in_ok-bodies.bodies.items in
+    let bs = numbered_terms a v.bodies.items in
+    let cs = numbered_terms a c.in_ok-bodies.bodies.items in
     let is : cs ≡ bs ++ begun a v.is_special (App x.op x.sort (trees_of us)) a.rules.theory.now.derivatives
     = c.in_ok-bodies.ensures.bodies ∙ ap (λ y. bs ++ begun a v.is_special y a.rules.theory.now.derivatives) e in
     if_told (AreCovered a (v.is_special ≡ true) x.op cs us) (IsCovered a (v.is_special ≡ true) bs u) c.all_hold.result
     (λ r h. subst (λ y. IsTrue r ↔ IsCovered a (v.is_special ≡ true) bs y) (sym e)
     (application_covered a c.known.ensures v.is_special x.op x.sort (trees_of us) bs cs is r
     (subst (λ ys. IsTrue r ↔ AreCovered a (v.is_special ≡ true) x.op cs ys) (sym (list_of-trees_of us)) h)))
-    (subst (λ ns. IfOk c.all_hold.result (λ b. IsTrue b ↔ AreCovered a (v.is_special ≡ true) x.op (terms_of a ns) us)) c.as_slice-in-Application.ensures c.all_hold.ensures.exact)
+    (subst (λ ns. IfOk c.all_hold.result (λ b. IsTrue b ↔ AreCovered a (v.is_special ≡ true) x.op (numbered_terms a ns) us)) c.as_slice-in-Application.ensures c.all_hold.ensures.exact)
 
 -- ---- one argument after another
 

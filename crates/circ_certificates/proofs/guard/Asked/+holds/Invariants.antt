@@ -1,5 +1,5 @@
 use Rattle.std.proofs.Common.{◌≡◌, ◌+◌, ◌*◌, true}
-use Rattle.circ_certificates.specs.Visits.{AreSeen}
+use Rattle.circ_certificates.specs.Visits.{AreCoveredVisits}
 use Rattle.circ_certificates.proofs.Members.{above}
 use Rattle.circ_certificates.proofs.Seeing.{FirstHold}
 use Rattle.circ_certificates.proofs.guard.Asked.+holds.Given as goal
@@ -15,6 +15,6 @@ decreases-all_hold l = 3 * above l.args.now
 
 abbrev pub invariant-all_hold-loop-place : goal.invariant-all_hold-loop-place
 invariant-all_hold-loop-place l = record {
-  seen : AreSeen l.self l.seen.keys;
+  seen : AreCoveredVisits l.self l.seen.keys;
   first : FirstHold l.self (l.is_special ≡ true) l.op l.bodies l.args l.place;
 }

@@ -1,21 +1,13 @@
-use Rattle.std.proofs.Common.{List, ap, sym, subst, take, ◌∙◌}
-use Rattle.circ_term.specs.Tree.{Tree}
-use Rattle.circ_nodes.specs.Roots.{IsKept, trees_with}
-use Rattle.circ_nodes.specs.declared.nodes.Root.{Root}
-use Rattle.circ_nodes.specs.declared.nodes.Weight.{Weight}
+use Rattle.std.proofs.Common.{ap, take, ◌∙◌}
+use Rattle.circ_nodes.specs.Rows.{roots}
 use Rattle.circ_nodes.proofs.Behind.{trees_cut}
-use Rattle.circ_nodes.proofs.Rooted.{kept_cut}
+use Rattle.circ_nodes.proofs.Storing.{terms_cut}
 use Rattle.circ_nodes.proofs.nodes.Nodes.cut.Goals as goal
 
 pub invariant_of-self : goal.invariant_of-self
 invariant_of-self c =
-    let roots = c.self.inside.roots.keys in
-    let trees = trees_cut roots c.truncate-2.new.self.keys c.args.count c.truncate-2.ensures.keys in
-    let P : List Tree → Type 0 = λ ts. IsKept ts c.truncate-2.new.self.keys c.truncate.new.self.items in
-    let Q : List Root → Type 0 = λ rs. IsKept (take c.args.count (trees_with roots)) rs c.truncate.new.self.items in
-    let R : List Weight → Type 0 = IsKept (take c.args.count (trees_with roots)) (take c.args.count roots) in
-    subst P (sym trees) (subst Q (sym c.truncate-2.ensures.keys) (subst R (sym c.truncate.ensures.items) (kept_cut c.self.invariant c.args.count)))
+    let first = c.truncate.ensures in
+    terms_cut c.self.inside.rows c.truncate.new.self c.self.inside.chains c.truncate-2.new.self c.self.invariant first.rows c.args.count first.roots first.weights c.truncate-2.ensures
 
 pub returns : goal.returns
-returns c =
-    trees_cut c.self.inside.roots.keys c.truncate-2.new.self.keys c.args.count c.truncate-2.ensures.keys ∙ ap (take c.args.count) c.self.view_is
+returns c = trees_cut (roots c.self.inside.rows) (roots c.truncate.new.self) c.args.count c.truncate.ensures.roots ∙ ap (take c.args.count) c.self.view_is
