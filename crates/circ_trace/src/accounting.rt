@@ -2,7 +2,7 @@
 ghost use Rattle.std.specs.Prelude.{◌≡◌, ◌≢◌, ◌<◌, ◌^◌, ◌++◌, List, length, Some, None};
 ghost use Rattle.std.specs.Prelude.{false, IfOk, OnOk};
 ghost use Rattle.std.specs.Option.{option_map};
-ghost use Rattle.circ_theory.specs.declared.parts.Goal.{Goal as TheGoal};
+ghost use Rattle.circ_theory.specs.Goal.{Goal as TheGoal};
 ghost use Rattle.circ_rewrite.specs.declared.fault.RewriteFault.TheVariants.{Memory as NoMemory};
 ghost use Rattle.circ_block.specs.Rules.{IsRulesOf};
 ghost use Rattle.circ_join.specs.Uses.{plain_uses};
