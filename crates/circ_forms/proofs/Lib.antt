@@ -4,3 +4,4 @@ pub mod Folded
 pub mod Taken
 pub mod Ways
 pub mod Settling
+pub mod Placed

@@ -24,6 +24,10 @@ apart_first Less b n = refl
 apart_first Equal b n = absurd (n refl)
 apart_first Greater b n = refl
 
+-- what is not Equal decides, whatever comes behind
+pub decided_then : (r a b : Ordering) → r ≡ a → (r ≡ Equal → ⊥) → r ≡ ordering_then a b
+decided_then r a b e n = e ∙ apart_first a b (λ q. n (e ∙ q))
+
 pub apps_apart : (t u : Tree) (f s g k : ℕ) (ts us : Trees) (x : Ordering) → t ≡ App f s ts → u ≡ App g k us → x ≡ nat_cmp f g → (x ≡ Equal → ⊥)
     → x ≡ tree_cmp t u
 apps_apart t u f s g k ts us x e d p n =

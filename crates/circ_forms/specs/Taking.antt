@@ -1,6 +1,7 @@
 -- What two rows come to as one.
-use Rattle.std.specs.Prelude.{◌≡◌, ◌<◌, ℕ, true, List, [], ◌∷◌, ◌++◌, length}
+use Rattle.std.specs.Prelude.{◌≡◌, ◌<◌, ℕ, suc, true, if◌then◌else◌, List, [], ◌∷◌, ◌++◌, length}
 use Rattle.circ_term.specs.Tree.{Tree}
+use Rattle.circ_term.specs.Order.{comes_before}
 use Rattle.circ_theory.specs.Signature.{Operator}
 use Rattle.circ_aci.specs.Content.{leaves}
 use Rattle.circ_aci.specs.Canonical.{join}
@@ -22,6 +23,11 @@ pub record Takes (nodes : List Tree) (o : Operator) (f : ℕ) (all : List Tree) 
 abbrev pub behind : List Tree → List Tree
 behind [] = []
 behind (x ∷ xs) = xs
+
+-- the place of the first of some terms that doesn't come before x
+abbrev pub place_in : Tree → List Tree → ℕ
+place_in x [] = 0
+place_in x (y ∷ ys) = if comes_before y x then suc (place_in x ys) else 0
 
 -- the operator on these terms, grouped to the right
 abbrev pub joined_at : (nodes : List Tree) (f k : ℕ) → List ℕ → ℕ → Tree

@@ -64,7 +64,13 @@ fn content(
     Ok(parts)
 }
 
-fn push_leaves(nodes: &Nodes, op: u32, number: u32, parts: &mut Vec<u32>) -> Result<(), AllocError>
+// The terms that the operator joins in a term go last.
+pub(crate) fn push_leaves(
+    nodes: &Nodes,
+    op: u32,
+    number: u32,
+    parts: &mut Vec<u32>,
+) -> Result<(), AllocError>
     requires there { number < length nodes.now }
     requires below { AreThere nodes.now parts.old.items }
     ensures below { AreThere nodes.now parts.new.items }

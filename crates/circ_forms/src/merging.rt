@@ -1,5 +1,5 @@
 //! Two canonical terms under one associative operator.
-ghost use Rattle.std.specs.Prelude.{◌≡◌, ◌<◌, ◌&&◌, ℕ, true, false, length, IfOk, None};
+ghost use Rattle.std.specs.Prelude.{◌≡◌, ◌<◌, ◌&&◌, ℕ, true, false, length, IfOk, None, []};
 ghost use Rattle.circ_term.specs.Tree.{trees_of};
 ghost use Rattle.circ_term.specs.Order.{is_same};
 ghost use Rattle.circ_term.specs.Growing.{Grows};
@@ -14,8 +14,9 @@ ghost use Rattle.circ_nodes.specs.Named.{Interns, tree_at};
 ghost use Rattle.circ_forms.specs.Named.{trees_at, AreThere};
 ghost use Rattle.circ_forms.specs.Taking.{IsRow, Takes, behind, joined_at};
 
-use crate::operands::{first_in, is_same, operands};
+use crate::operands::{first_in, is_same, is_single, operands};
 use crate::order::cmp;
+use crate::placing::take_in_place;
 use circ_nodes::{Nodes, Numbers};
 use circ_term::TermFault;
 use circ_theory::OpDecl;
@@ -46,7 +47,8 @@ pub(crate) fn merge(
     fold(alloc, nodes, op, decl.result, parts, last)
 }
 
-// The terms that both rows join, until one row ends: what is left of the other comes last.
+// The terms that both rows join, until one row ends, or to the place of a single term: what is left
+// of the other comes last.
 fn take(
     nodes: &Nodes,
     decl: &OpDecl,
@@ -57,17 +59,22 @@ fn take(
 ) -> Result<u32, AllocError>
     requires first { IsRow nodes.now (operator_of decl.now) op first }
     requires second { IsRow nodes.now (operator_of decl.now) op second }
-    requires below { AreThere nodes.now parts.old.items }
+    requires none { parts.old.items ≡ [] }
     ensures below { AreThere nodes.now parts.new.items }
     ensures takes { IfOk result (Takes nodes.now (operator_of decl.now) op
         (merged (operator_of decl.now) (leaves op (tree_at nodes.now first))
         (leaves op (tree_at nodes.now second))) parts.old.items parts.new.items) }
 {
-    if decl.comm {
-        take_in_order(nodes, decl, op, first, second, parts)
-    } else {
-        take_first(nodes, decl, op, first, second, parts)
+    if !decl.comm {
+        return take_first(nodes, decl, op, first, second, parts);
     }
+    if is_single(nodes, op, first) {
+        return take_in_place(nodes, decl, op, first, second, parts);
+    }
+    if is_single(nodes, op, second) {
+        return take_in_place(nodes, decl, op, second, first, parts);
+    }
+    take_in_order(nodes, decl, op, first, second, parts)
 }
 
 // The same where the order of terms decides.

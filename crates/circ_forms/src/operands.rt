@@ -1,5 +1,5 @@
 //! What an operator stands on at the top of an interned term.
-ghost use Rattle.std.specs.Prelude.{◌≡◌, ◌<◌, length};
+ghost use Rattle.std.specs.Prelude.{◌≡◌, ◌↔◌, ◌<◌, length, IsTrue, None};
 ghost use Rattle.circ_term.specs.Order.{is_same};
 ghost use Rattle.circ_theory.specs.Operators.{operator_of};
 ghost use Rattle.circ_aci.specs.Operands.{operands, marked_operands};
@@ -45,6 +45,17 @@ pub(crate) fn marked_operands(
         operands(nodes, op, number)
     } else {
         None
+    }
+}
+
+// Whether the operator joins nothing in the term.
+pub(crate) fn is_single(nodes: &Nodes, op: u32, number: u32) -> bool
+    requires { number < length nodes.now }
+    ensures { IsTrue result ↔ (operands op (tree_at nodes.now number) ≡ None) }
+{
+    match operands(nodes, op, number) {
+        Some(_) => false,
+        None => true,
     }
 }
 

@@ -1,6 +1,7 @@
 //! The order of terms, by number.
 ghost use Rattle.std.specs.Prelude.{◌≡◌, ◌<◌, length, map};
 ghost use Rattle.std.specs.List.{AllByRecursion};
+ghost use Rattle.std.specs.Ordering.{ordering_then};
 ghost use Rattle.circ_term.specs.Tree.{trees_of};
 ghost use Rattle.circ_term.specs.Order.{tree_cmp, trees_cmp};
 ghost use Rattle.circ_nodes.specs.Named.{HasShape, tree_at};
@@ -33,19 +34,21 @@ pub fn cmp(nodes: &Nodes, a: u32, b: u32) -> Ordering
                 sort: other_sort,
                 args: other_args,
             } => match op.cmp(&other_op) {
-                Ordering::Equal => cmp_all(nodes, args, other_args).then(sort.cmp(&other_sort)),
+                Ordering::Equal => cmp_all(nodes, args, other_args, sort.cmp(&other_sort)),
                 apart => apart,
             },
         },
     }
 }
 
+// The order of two lists of arguments, or the other one where the lists are the same. The call for
+// the arguments that differ comes last, so that nothing is left to do on the way back.
 #[cycle(cmp)]
-fn cmp_all(nodes: &Nodes, a: &[u32], b: &[u32]) -> Ordering
+fn cmp_all(nodes: &Nodes, a: &[u32], b: &[u32], otherwise: Ordering) -> Ordering
     requires first { AllByRecursion (λ n. n < length nodes.now) a.now }
     requires second { AllByRecursion (λ n. n < length nodes.now) b.now }
-    ensures { result ≡ trees_cmp (trees_of (map (tree_at nodes.now) a.now))
-        (trees_of (map (tree_at nodes.now) b.now)) }
+    ensures { result ≡ ordering_then (trees_cmp (trees_of (map (tree_at nodes.now) a.now))
+        (trees_of (map (tree_at nodes.now) b.now))) otherwise }
 {
     for i in 0..a.len().min(b.len()) {
         if a[i] != b[i] {
@@ -53,7 +56,7 @@ fn cmp_all(nodes: &Nodes, a: &[u32], b: &[u32]) -> Ordering
             return cmp(nodes, a[i], b[i]);
         }
     }
-    a.len().cmp(&b.len())
+    a.len().cmp(&b.len()).then(otherwise)
 }
 
 // The term of a number, taken apart; a number that is not there is taken for the first variable.

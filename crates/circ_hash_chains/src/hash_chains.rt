@@ -13,7 +13,7 @@ use std::marker::Model;
 const CHAIN_END: u32 = 0;
 
 // The fewest chains.
-const FEWEST: usize = 8;
+const FEWEST: usize = 9;
 
 // The most numbers, so that each link is a `u32`.
 const MOST_NUMBERS: usize = 4_294_967_295;
@@ -98,7 +98,15 @@ impl HashChains {
         self.chains.cut(count);
     }
 
-    /// The last number with this key. Costs little if keys spread well.
+    /// The key of a number.
+    pub fn key(&self, number: u32) -> u32
+        requires { number < length self.now }
+        ensures { slice_get self.now number ≡ Some result }
+    {
+        self.chains.links[number as usize].key
+    }
+
+    /// The last number with this key. Costs little if keys differ, whatever their bits are.
     pub fn newest(&self, key: u32) -> Option<u32>
         ensures { IsLastBelow self.now key (length self.now) result }
     {
@@ -122,7 +130,7 @@ impl HashChains {
 
 impl Chains {
     // Makes room for one number more, and more chains than there are numbers. Twice as many are
-    // made, so that this is seldom done.
+    // made, so that this is seldom done, and one more, so that all bits of a key tell its chain.
     fn make_room(&mut self, alloc: Global) -> Result<(), AllocError>
         requires { AreChains self.old }
         ensures keys { keys_of self.new.links.items ≡ keys_of self.old.links.items }
@@ -135,7 +143,7 @@ impl Chains {
         if count < self.heads.len() {
             return Ok(());
         }
-        let mut heads = vec![in alloc; CHAIN_END; (2 * count).max(FEWEST)]?;
+        let mut heads = vec![in alloc; CHAIN_END; (2 * count + 1).max(FEWEST)]?;
         enter_all(self.links.as_mut_slice(), heads.as_mut_slice());
         self.heads = heads;
         Ok(())

@@ -7,3 +7,4 @@ pub mod Stores
 pub mod Wholes
 pub mod Telling
 pub mod Lists
+pub mod Circling

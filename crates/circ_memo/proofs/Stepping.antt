@@ -1,6 +1,7 @@
 -- What is to be kept of terms on the way to a normal form.
-use Rattle.std.proofs.Common.{◌≡◌, ℕ, ◌+◌, ◌≤◌, List, [], ◌∷◌, ◌++◌, length, Option, Some, None, refl, ap, sym, subst, ◌∙◌, arith, length-append}
-use Rattle.std.specs.List.{AllByRecursion}
+use Rattle.std.proofs.Common.{◌≡◌, ℕ, ◌+◌, ◌≤◌, ◌<◌, zero, suc, List, [], ◌∷◌, ◌++◌, length, Option, Some, None, refl, ap, sym, subst, ◌∙◌, arith, length-append}
+use Rattle.std.specs.List.{AllByRecursion, slice_get}
+use Rattle.std.proofs.lemmas.Option.{same_Some}
 use Rattle.circ_term.specs.Tree.{Tree, size_of, depth_of}
 use Rattle.circ_rewrite.specs.Replacement.{Replacement, Traced, placed, traced}
 use Rattle.circ_rewrite.specs.Standing.{HasSettledBelow}
@@ -109,6 +110,27 @@ module _ (due : Tree → Option Replacement) (nodes : List Tree) where
           front ++ rest.0,
           chain_on due b.big b.deep front rest.0 t h.0 u first rest.1,
           omega (arith, length-append front rest.0, length-append p.way.traces (traced (placed [] p.replacement) ∷ []), p.way.count, rest.2),
+        )
+
+    -- the way to one of the steps, and the way on from there, which is not empty
+    pub passed_at : (t : Tree) (ss : List Step) (u : Tree) (i : ℕ) (s : Step) → ArePassed due nodes b t ss u → slice_get ss i ≡ Some s
+        → (v : Tree) × IsNamed nodes s.here v × (front : List Traced) × Chain due b.big b.deep t front v × (back : List Traced) × Chain due b.big b.deep v back u
+        × (0 < length back) × (length front + length back ≡ passed_count ss)
+    passed_at t [] u i s h e = absurd (cc)
+    passed_at t (r ∷ ss) u zero s h e =
+        let way = passed_chain t (r ∷ ss) u h in
+        (t, subst (λ x. IsNamed nodes x.here t) (same_Some r s e) h.1.here, [], refl, way.0, way.1, omega (arith, way.2), omega (arith, way.2))
+    passed_at t (r ∷ ss) u (suc i) s h e =
+        let first = passed_chain t (r ∷ []) h.0 (h.0, h.1, refl) in
+        let rest = passed_at h.0 ss u i s h.2 e in (
+          rest.0,
+          rest.1,
+          first.0 ++ rest.2,
+          chain_on due b.big b.deep first.0 rest.2 t h.0 rest.0 first.1 rest.3,
+          rest.4,
+          rest.5,
+          rest.6,
+          omega (arith, length-append first.0 rest.2, first.2, rest.7),
         )
 
 pub count_on : (ss : List Step) (s : Step) → passed_count (ss ++ s ∷ []) ≡ passed_count ss + (s.way.count + 1)

@@ -14,8 +14,11 @@ use crate::keeping::{keep_settled, keep_steps};
 use crate::parts::{Bounds, Entry, Passing, Step, Stop, Turn, Way};
 use crate::store::Store;
 use circ_due::Means;
+use circ_rewrite::RewriteFault;
 
-// What is to be kept of a term, by replacements that make no term past the bounds.
+// What is to be kept of a term, by replacements that make no term past the bounds. A term that comes
+// again would come again until the budget is used up: that is seen by Brent's method, which compares
+// each new term with one that came before, of late the last whose count was a power of two.
 #[cycle(settle)]
 pub(crate) fn settle(
     means: &Means<'_>,
@@ -34,6 +37,7 @@ pub(crate) fn settle(
 {
     let mut steps = Vec::new(store.alloc);
     let mut here = number;
+    let mut mark = 0;
     loop {
         match turn(means, store, here, bounds, budget) {
             Err(stop) => {
@@ -46,6 +50,24 @@ pub(crate) fn settle(
                 here = step.next;
             }
         }
+        if steps[mark].here == here {
+            drop(steps);
+            *budget = 0;
+            return Err(Stop::Fault(RewriteFault::Spent));
+        }
+        mark = next_mark(mark, steps.len());
+    }
+}
+
+// The step with whose term new ones are compared, when so many were made.
+fn next_mark(mark: usize, made: usize) -> usize
+    requires { mark < made }
+    ensures { result < made }
+{
+    if made.is_power_of_two() {
+        made - 1
+    } else {
+        mark
     }
 }
 

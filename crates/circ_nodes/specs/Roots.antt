@@ -2,13 +2,16 @@
 use Rattle.std.specs.Prelude.{◌≡◌, ℕ, ◌^◌, ◌≤◌, ◌<◌, List, [], ◌∷◌, ◌++◌, length, map, Option, Some, None, Result, Ok, Err}
 use Rattle.std.specs.List.{slice_get, AllByRecursion}
 use Rattle.circ_term.specs.Tree.{Tree, Trees, Var, App, trees_of, size_of, depth_of, is_ground, sizes_of, depths_of, are_ground}
+use Rattle.circ_term.specs.Fingerprint.{fingerprint_of}
 use Rattle.circ_term.specs.Limits.{argument_limit, first_limit, first_limits, IsWithinLimits, Names}
 use Rattle.circ_term.specs.declared.fault.TermFault.{TermFault}
 use Rattle.circ_nodes.specs.Named.{IsNamed, AreNamed, IsOnce, tree_at}
+use Rattle.circ_nodes.specs.declared.nodes.Lookup.{Lookup}
+use Rattle.circ_nodes.specs.declared.nodes.Lookup.TheVariants.{There, Absent, Unclear}
 use Rattle.circ_nodes.specs.declared.nodes.Measures.{Measures}
 use Rattle.circ_nodes.specs.declared.rows.Rows.{Rows}
 use Rattle.circ_nodes.specs.declared.rows.Weight.{Weight}
-use Rattle.circ_nodes.specs.Rows.{PlainRoot, variable, application, arguments, roots, weights, IsLaid, root_key}
+use Rattle.circ_nodes.specs.Rows.{PlainRoot, variable, application, arguments, roots, weights, IsLaid}
 
 -- the term with this root
 abbrev pub root_tree : (nodes : List Tree) → PlainRoot → Tree
@@ -33,6 +36,12 @@ HasRoot nodes (application op sort args) t = (ts : Trees) × (t ≡ App op sort 
 abbrev pub Finds : (nodes : List Tree) → Tree → Option ℕ → Type 0
 Finds nodes t (Some n) = IsNamed nodes n t
 Finds nodes t None = (n : ℕ) → IsNamed nodes n t → ⊥
+
+-- what a search for a whole term tells: its number, that it has none, or nothing
+abbrev pub Tells : (nodes : List Tree) → Tree → Lookup → Type 0
+Tells nodes t (There n) = IsNamed nodes n t
+Tells nodes t Absent = Finds nodes t None
+Tells nodes t Unclear = Unit {0}
 
 -- This is kept of the term, which is within the limits.
 pub record HasWeight (w : Weight) (t : Tree) : Type 0 where
@@ -63,8 +72,8 @@ pub record IsKept (nodes : List Tree) (roots : List PlainRoot) (weights : List W
   pub weighted : length weights ≡ length nodes
   pub weighs : (n : ℕ) (w : Weight) (t : Tree) → slice_get weights n ≡ Some w → IsNamed nodes n t → HasWeight w t
 
--- the terms of these rows are kept, and their roots are found by these keys
+-- the terms of these rows are kept, and their fingerprints are these keys
 pub record AreTerms (l : Rows) (keys : List ℕ) : Type 0 where
   pub rows : IsLaid l
   pub kept : IsKept (trees_with (roots l)) (roots l) (weights l)
-  pub keyed : keys ≡ map root_key (roots l)
+  pub keyed : keys ≡ map fingerprint_of (trees_with (roots l))

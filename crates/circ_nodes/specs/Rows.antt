@@ -1,5 +1,5 @@
 -- How terms lie in memory: for each a row, and the numbers of the arguments of all.
-use Rattle.std.specs.Prelude.{◌≡◌, ℕ, zero, suc, ◌-◌, ◌*◌, ◌/◌, ◌%◌, ◌^◌, ◌≤◌, bit_xor, if◌then◌else◌, List, [], ◌∷◌, length, map, take, drop, fold}
+use Rattle.std.specs.Prelude.{◌≡◌, ℕ, zero, suc, ◌-◌, ◌≤◌, if◌then◌else◌, List, [], ◌∷◌, length, map, take, drop}
 use Rattle.circ_nodes.specs.declared.nodes.Shape.{Shape}
 use Rattle.circ_nodes.specs.declared.nodes.Shape.TheVariants.{Variable, Application}
 use Rattle.circ_nodes.specs.declared.rows.Row.{Row}
@@ -54,18 +54,3 @@ AreLaid start (r ∷ rs) last = (start ≤ r.end) × AreLaid r.end rs last
 
 abbrev pub IsLaid : Rows → Type 0
 IsLaid l = AreLaid 0 l.rows.items (length l.args.items)
-
--- a hash with one number more
-abbrev pub folded : ℕ → ℕ
-folded product = bit_xor product (product / 2 ^ 32)
-
-unfoldable pub mixed : ℕ → ℕ → ℕ
-mixed hash number = folded (bit_xor hash number * 11400714819323198485 % 2 ^ 64)
-
-abbrev pub hash_of : PlainRoot → ℕ
-hash_of (variable number sort) = mixed (mixed 1 number) sort
-hash_of (application op sort args) = fold mixed (mixed (mixed 0 op) sort) args
-
--- the upper half of a root's hash
-abbrev pub root_key : PlainRoot → ℕ
-root_key p = hash_of p / 2 ^ 32

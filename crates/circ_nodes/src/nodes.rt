@@ -1,27 +1,31 @@
 //! Terms that are kept by number.
-ghost use Rattle.std.specs.Prelude.{◌≡◌, ◌<◌, ◌≤◌, ◌^◌, ◌*◌, ℕ, [], length};
-ghost use Rattle.std.specs.Prelude.{◌++◌, ◌∷◌, take, None, IfOk, OnOk, OnErr};
+ghost use Rattle.std.specs.Prelude.{◌≡◌, ◌<◌, ◌≤◌, ◌^◌, ◌*◌, ◌↔◌, ℕ, [], length};
+ghost use Rattle.std.specs.Prelude.{◌++◌, ◌∷◌, take, None, IsTrue, IfOk, OnOk, OnErr};
 ghost use Rattle.std.specs.List.{slice_get, AllByRecursion};
 ghost use Rattle.circ_term.specs.Tree.{Tree, Trees, Var, App, args_of, trees_of, at};
 ghost use Rattle.circ_term.specs.Tree.{size_of, depth_of, sort_of, is_ground};
+ghost use Rattle.circ_term.specs.Fingerprint.{mixed, fingerprint_of};
 ghost use Rattle.circ_term.specs.Limits.{IsWithinLimits};
 ghost use Rattle.circ_term.specs.Limits.{argument_limit, node_limit, depth_limit};
 ghost use Rattle.circ_term.specs.Growing.{Grows};
 ghost use Rattle.circ_nodes.specs.Named.{IsNamed, AreNamed, IsOnce, HasShape, Interns, tree_at};
 ghost use Rattle.circ_nodes.specs.Named.{Enters, AddsOnly, IsPart, IsPartOfSome};
 ghost use Rattle.circ_nodes.specs.Named.{arguments_of, Points};
-ghost use Rattle.circ_nodes.specs.Roots.{HasRoot, Finds, HasWeight, AreMeasures, Weighs};
-ghost use Rattle.circ_nodes.specs.Rows.{plain_root, root_key};
+ghost use Rattle.circ_nodes.specs.Roots.{HasRoot, Finds, Tells, HasWeight, AreMeasures, Weighs};
+ghost use Rattle.circ_nodes.specs.Rows.{plain_root};
 
 use crate::Numbers;
-use crate::rows::{Rows, Weight, key_of};
+use crate::rows::{Rows, Weight};
 use circ_hash_chains::HashChains;
-use circ_term::{Kind, MOST_ARGS, MOST_DEPTH, MOST_NODES, Term, TermFault};
+use circ_term::{Kind, MOST_ARGS, MOST_DEPTH, MOST_NODES, Term, TermFault, mixed};
 use std::alloc::{AllocError, Global};
 use std::marker::Model;
 
 // The most terms, so that each has a number that is a `u32`.
 const MOST_TERMS: usize = 4_294_967_295;
+
+// What the fingerprint of an application begins with.
+const APPLICATION: u32 = 2;
 
 // The sizes of some terms together, the depth of the deepest, and whether none has a variable.
 #[derive(Clone, Copy)]
@@ -31,6 +35,17 @@ struct Measures {
     are_ground: bool,
 }
 
+// What a search for a whole term tells.
+#[derive(Clone, Copy)]
+enum Lookup {
+    // Its number.
+    There(u32),
+    // That it has no number.
+    Absent,
+    // Nothing, since another term is much like it.
+    Unclear,
+}
+
 /// Terms by number. Each is there once, and its arguments are there too. A term is kept in 20 bytes
 /// and 4 for each argument, and 12 to 16 by which it is found. A call that would add one more than
 /// 4,294,967,295, or would have more than 4,294,967,295 arguments kept, answers want of memory.
@@ -38,7 +53,7 @@ struct Measures {
 pub struct Nodes {
     alloc: Global,
     rows: Rows,
-    // The keys of the roots, by number.
+    // The fingerprints of the terms, by number.
     chains: HashChains,
 }
 
@@ -239,7 +254,7 @@ impl Nodes {
         ensures err { OnErr result (self.new ≡ self.old) }
     {
         let root = Shape::Application { op, sort, args };
-        let key = key_of(root);
+        let key = self.fingerprint(op, sort, args);
         if let Some(number) = self.find(root, key) {
             self.known_at(number);
             return Ok(number);
@@ -250,20 +265,38 @@ impl Nodes {
         }
     }
 
-    /// The number of a term. Each node is looked up once, counted as a tree. Nothing but parts of
-    /// the term is added, also before want of memory.
+    /// The number of a term. A part that is there already is found by its fingerprint and compared
+    /// once. Each other node costs a look-up. Nothing but parts of the term is added, also before
+    /// want of memory.
     #[cycle(intern)]
     pub fn intern(&mut self, term: &Term) -> Result<u32, AllocError>
         ensures grows { Grows self.old self.new }
         ensures parts { AddsOnly (IsPart term.now) self.old self.new }
         ensures named { IfOk result (λ n. IsNamed self.new n term.now) }
     {
+        match self.look_up(term) {
+            Lookup::There(number) => Ok(number),
+            Lookup::Absent => self.add(term),
+            Lookup::Unclear => self.intern_nodes(term),
+        }
+    }
+
+    // The new term goes last, behind its arguments.
+    #[cycle(intern)]
+    fn add(&mut self, term: &Term) -> Result<u32, AllocError>
+        requires { Finds self.old term.now None }
+        ensures grows { Grows self.old self.new }
+        ensures parts { AddsOnly (IsPart term.now) self.old self.new }
+        ensures named { IfOk result (λ n. IsNamed self.new n term.now) }
+    {
         match term.kind() {
-            Kind::Variable { number, sort } => self.enter(Shape::Variable { number, sort }, term),
+            Kind::Variable { number, sort } => {
+                self.put_term(Shape::Variable { number, sort }, term)
+            }
             Kind::Application { op, sort, args } => {
                 let args = self.intern_all(args)?;
                 let args = args.as_slice();
-                self.enter(Shape::Application { op, sort, args }, term)
+                self.put_term(Shape::Application { op, sort, args }, term)
             }
         }
     }
@@ -281,6 +314,179 @@ impl Nodes {
         Ok(numbers)
     }
 
+    // The number of a term, each node of which is looked up.
+    #[cycle(intern_nodes)]
+    fn intern_nodes(&mut self, term: &Term) -> Result<u32, AllocError>
+        ensures grows { Grows self.old self.new }
+        ensures parts { AddsOnly (IsPart term.now) self.old self.new }
+        ensures named { IfOk result (λ n. IsNamed self.new n term.now) }
+    {
+        match term.kind() {
+            Kind::Variable { number, sort } => self.enter(Shape::Variable { number, sort }, term),
+            Kind::Application { op, sort, args } => {
+                let args = self.intern_all_nodes(args)?;
+                let args = args.as_slice();
+                self.enter(Shape::Application { op, sort, args }, term)
+            }
+        }
+    }
+
+    #[cycle(intern_nodes)]
+    fn intern_all_nodes(&mut self, terms: &[Term]) -> Result<Numbers, AllocError>
+        ensures grows { Grows self.old self.new }
+        ensures parts { AddsOnly (IsPartOfSome terms.now) self.old self.new }
+        ensures named { IfOk result (λ ns. AreNamed self.new ns.items (trees_of terms.now)) }
+    {
+        let mut numbers = Numbers::with_capacity(self.alloc, terms.len())?;
+        for term in terms {
+            numbers.push(self.intern_nodes(term)?)?;
+        }
+        Ok(numbers)
+    }
+
+    // Looks for a whole term among those with its fingerprint. It is compared with one at most: the
+    // first whose arguments have the fingerprints of the term's.
+    fn look_up(&self, term: &Term) -> Lookup
+        ensures { Tells self.now term.now result }
+    {
+        let mut next = self.chains.newest(term.fingerprint());
+        while let Some(number) = next {
+            if self.have_keys(self.arguments(number), term.args()) {
+                return self.compare(number, term);
+            }
+            next = self.chains.older(number);
+        }
+        Lookup::Absent
+    }
+
+    fn compare(&self, number: u32, term: &Term) -> Lookup
+        requires { number < length self.now }
+        ensures { Tells self.now term.now result }
+    {
+        if self.is_term(number, term) {
+            return Lookup::There(number);
+        }
+        Lookup::Unclear
+    }
+
+    // Whether the term of a number is this one.
+    #[cycle(is_term)]
+    fn is_term(&self, number: u32, term: &Term) -> bool
+        requires { number < length self.now }
+        ensures { IsTrue result → IsNamed self.now number term.now }
+    {
+        match (self.shape(number), term.kind()) {
+            (
+                Shape::Variable {
+                    number: id,
+                    sort: id_sort,
+                },
+                Kind::Variable {
+                    number: own,
+                    sort: own_sort,
+                },
+            ) => {
+                if id != own || id_sort != own_sort {
+                    return false;
+                }
+                true
+            }
+            (
+                Shape::Application { op, sort, args },
+                Kind::Application {
+                    op: other,
+                    sort: other_sort,
+                    args: terms,
+                },
+            ) => {
+                if op != other || sort != other_sort {
+                    return false;
+                }
+                self.are_terms(args, terms)
+            }
+            _ => false,
+        }
+    }
+
+    // Whether the terms of these numbers are these. All fingerprints are compared before any goes
+    // further down.
+    #[cycle(is_term)]
+    fn are_terms(&self, numbers: &[u32], terms: &[Term]) -> bool
+        requires { AllByRecursion (λ n. n < length self.now) numbers.now }
+        ensures { IsTrue result → AreNamed self.now numbers.now (trees_of terms.now) }
+    {
+        if numbers.len() != terms.len() {
+            return false;
+        }
+        if !self.have_keys(numbers, terms) {
+            return false;
+        }
+        for i in 0..terms.len() {
+            if !self.is_term(numbers[i], &terms[i]) {
+                return false;
+            }
+        }
+        true
+    }
+
+    // Whether the terms of these numbers have the fingerprints of these terms.
+    fn have_keys(&self, numbers: &[u32], terms: &[Term]) -> bool
+        requires { AllByRecursion (λ n. n < length self.now) numbers.now }
+        ensures { AreNamed self.now numbers.now (trees_of terms.now) → IsTrue result }
+    {
+        if numbers.len() != terms.len() {
+            return false;
+        }
+        for i in 0..terms.len() {
+            if !self.has_key(numbers[i], &terms[i]) {
+                return false;
+            }
+        }
+        true
+    }
+
+    // Whether the term of a number has the fingerprint of this one.
+    fn has_key(&self, number: u32, term: &Term) -> bool
+        requires { number < length self.now }
+        ensures { IsTrue result
+            ↔ (fingerprint_of (tree_at self.now number) ≡ fingerprint_of term.now) }
+    {
+        self.key(number) == term.fingerprint()
+    }
+
+    // The fingerprint of the term of a number.
+    fn key(&self, number: u32) -> u32
+        requires { number < length self.now }
+        ensures { result ≡ fingerprint_of (tree_at self.now number) }
+    {
+        self.chains.key(number)
+    }
+
+    // The numbers of the arguments of the term of a number.
+    fn arguments(&self, number: u32) -> &[u32]
+        requires { number < length self.now }
+        ensures { (t : Tree) → IsNamed self.now number t
+            → AreNamed self.now result.now (trees_of (args_of t)) }
+    {
+        match self.shape(number) {
+            Shape::Variable { .. } => &[],
+            Shape::Application { args, .. } => args,
+        }
+    }
+
+    // The fingerprint of an operator on the terms of these numbers.
+    fn fingerprint(&self, op: u32, sort: u32, numbers: &[u32]) -> u32
+        requires { AllByRecursion (λ n. n < length self.now) numbers.now }
+        ensures { (ts : Trees) → AreNamed self.now numbers.now ts
+            → result ≡ fingerprint_of (App op sort ts) }
+    {
+        let mut all = first_mixed(op, sort);
+        for number in numbers {
+            all = mixed(all, self.key(*number));
+        }
+        all
+    }
+
     // The number of the term with this root. The term goes last where it is new.
     fn enter(&mut self, root: Shape<'_>, term: &Term) -> Result<u32, AllocError>
         requires { HasRoot self.old (plain_root root) term.now }
@@ -289,16 +495,27 @@ impl Nodes {
         ensures enters { OnOk result (Enters self.old self.new term.now) }
         ensures err { OnErr result (self.new ≡ self.old) }
     {
-        let key = key_of(root);
-        match self.find(root, key) {
+        match self.find(root, term.fingerprint()) {
             Some(number) => Ok(number),
-            None => self.put(root, key, weight_of(term)),
+            None => self.put_term(root, term),
         }
     }
 
-    // The number of the term with this root, which has this key.
+    // The new term with this root goes last, where there is room.
+    fn put_term(&mut self, root: Shape<'_>, term: &Term) -> Result<u32, AllocError>
+        requires root { HasRoot self.old (plain_root root) term.now }
+        requires fresh { Finds self.old term.now None }
+        ensures grows { Grows self.old self.new }
+        ensures named { IfOk result (λ n. IsNamed self.new n term.now) }
+        ensures enters { OnOk result (Enters self.old self.new term.now) }
+        ensures err { OnErr result (self.new ≡ self.old) }
+    {
+        self.put(root, term.fingerprint(), weight_of(term))
+    }
+
+    // The number of the term with this root, which has this fingerprint.
     fn find(&self, root: Shape<'_>, key: u32) -> Option<u32>
-        requires { key ≡ root_key (plain_root root) }
+        requires { (t : Tree) → HasRoot self.now (plain_root root) t → key ≡ fingerprint_of t }
         ensures { (t : Tree) → HasRoot self.now (plain_root root.entry) t
             → Finds self.now t result }
     {
@@ -347,10 +564,10 @@ impl Nodes {
         }
     }
 
-    // The new term goes last, where there is room. Its root has this key.
+    // The new term goes last, where there is room. It has this fingerprint.
     fn put(&mut self, root: Shape<'_>, key: u32, weight: Weight) -> Result<u32, AllocError>
         requires root { (t : Tree) × HasRoot self.old (plain_root root) t }
-        requires key { key ≡ root_key (plain_root root) }
+        requires key { (t : Tree) → HasRoot self.old (plain_root root) t → key ≡ fingerprint_of t }
         requires fresh { (t : Tree) → HasRoot self.old (plain_root root) t
             → Finds self.old t None }
         requires weight { (t : Tree) → HasRoot self.old (plain_root root) t → HasWeight weight t }
@@ -372,6 +589,13 @@ impl Nodes {
         }
         Ok(number as u32)
     }
+}
+
+// The fingerprint of an application before its arguments.
+fn first_mixed(op: u32, sort: u32) -> u32
+    ensures { result ≡ mixed (mixed 2 op) sort }
+{
+    mixed(mixed(APPLICATION, op), sort)
 }
 
 // What is kept of a variable.

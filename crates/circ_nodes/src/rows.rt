@@ -1,9 +1,9 @@
 //! How terms lie in memory.
 ghost use Rattle.std.specs.Prelude.{◌≡◌, ◌++◌, ◌∷◌, ◌-◌, ◌<◌, ◌≤◌, ◌↔◌, []};
-ghost use Rattle.std.specs.Prelude.{length, take, drop, fold, Some, IsTrue, OnOk, OnErr};
+ghost use Rattle.std.specs.Prelude.{length, take, drop, Some, IsTrue, OnOk, OnErr};
 ghost use Rattle.std.specs.List.{slice_get};
 ghost use Rattle.circ_nodes.specs.Rows.{plain_root, arguments, roots, weights, begin_of};
-ghost use Rattle.circ_nodes.specs.Rows.{row_weight, root_of, IsLaid, mixed, hash_of, root_key};
+ghost use Rattle.circ_nodes.specs.Rows.{row_weight, root_of, IsLaid};
 
 use crate::nodes::Shape;
 use std::alloc::{AllocError, Global};
@@ -202,38 +202,4 @@ fn same(a: Shape<'_>, b: Shape<'_>) -> bool
         ) => op == other && sort == other_sort && args == others,
         _ => false,
     }
-}
-
-// One number more.
-fn mixed(hash: u64, number: u32) -> u64
-    ensures { result ≡ mixed hash number }
-{
-    let product = (hash ^ number as u64).wrapping_mul(0x9E37_79B9_7F4A_7C15);
-    product ^ (product >> 32)
-}
-
-fn mixed_all(hash: u64, numbers: &[u32]) -> u64
-    ensures { result ≡ fold mixed hash numbers.now }
-{
-    let mut all = hash;
-    for number in numbers {
-        all = mixed(all, *number);
-    }
-    all
-}
-
-fn hash(root: Shape<'_>) -> u64
-    ensures { result ≡ hash_of (plain_root root.entry) }
-{
-    match root {
-        Shape::Variable { number, sort } => mixed(mixed(1, number), sort),
-        Shape::Application { op, sort, args } => mixed_all(mixed(mixed(0, op), sort), args),
-    }
-}
-
-// The upper half of the hash.
-pub(crate) fn key_of(root: Shape<'_>) -> u32
-    ensures { result ≡ root_key (plain_root root.entry) }
-{
-    (hash(root) >> 32) as u32
 }

@@ -23,10 +23,15 @@ use Rattle.circ_join.specs.Trying.{normaliser_of, Works}
 use Rattle.circ_memo.specs.Value.{Rewriting}
 use Rattle.circ_rewrite.specs.declared.fault.RewriteFault.{RewriteFault}
 use Rattle.circ_turn.specs.Standing.{unlinked, with_budget}
-use Rattle.circ_turn.specs.Ending.{EndsAs, GoesTo, reducing}
+use Rattle.circ_turn.specs.Ending.{EndsAs, GoesTo, RunEnds, reducing}
 use Rattle.circ_turn.specs.declared.end.End.{End}
+use Rattle.circ_turn.specs.declared.end.End.TheVariants as end
 use Rattle.circ_turn.proofs.Turning.{ends_then, goes_same, reduced_unlinked}
 use Rattle.circ_rewriting_turn.specs.Going.{TurnsTo}
+
+-- a run that ends for want of memory says nothing
+pub memory_ends : {X : Type 0} (R : Ending → Type 0) (st : Standing) (r : Result X End) → (e : End) × (r ≡ Err e) × (e ≡ end.Memory) → RunEnds R st r
+memory_ends {X = X} R st r p = let P : Result X End → Type 0 = λ x. RunEnds R st x in subst P (sym (p.1 ∙ ap Err p.2)) tt
 
 -- a goal that is done with goes on afresh
 pub goes_afresh : {X : Type 0} (r : Result Standing Ending) (st : Standing) (x : Result X End) → GoesTo r st x → TurnsTo (afresh r) (going st []) x

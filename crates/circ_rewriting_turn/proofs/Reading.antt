@@ -1,5 +1,5 @@
 -- How rules are read, step by step.
-use Rattle.std.proofs.Common.{◌≡◌, ℕ, zero, suc, ◌+◌, ◌<◌, ◌≤◌, Bool, List, [], ◌∷◌, ◌++◌, length, map, take, drop, Option, Some, None, refl, ap, sym, ◌∙◌, arith}
+use Rattle.std.proofs.Common.{◌≡◌, ℕ, zero, suc, ◌+◌, ◌<◌, ◌≤◌, Bool, List, [], ◌∷◌, ◌++◌, length, map, take, drop, Option, Some, None, refl, ap, sym, subst, ◌∙◌, arith}
 use Rattle.std.specs.Prelude.{nat_lt}
 use Rattle.circ_term.specs.Tree.{Tree}
 use Rattle.circ_theory.specs.Theory.{Theory}
@@ -7,7 +7,7 @@ use Rattle.circ_theory.specs.declared.parts.Goal.{Goal}
 use Rattle.circ_proof.specs.PlainProof.{plain_step, plain_steps}
 use Rattle.circ_proof.specs.Rules.{ProofStep, Derive}
 use Rattle.circ_proof.specs.declared.proof.Step.{Step}
-use Rattle.circ_plain_search.specs.Search.{Standing}
+use Rattle.circ_plain_search.specs.Search.{Limits, Standing, start}
 use Rattle.circ_attempt.specs.Attempt.{derived_rules}
 use Rattle.circ_attempt.specs.Following.{script_left, GoesOn, HasDerived}
 use Rattle.circ_attempt.specs.Search.{of_script}
@@ -112,3 +112,14 @@ begun_at th st new h s lemmas own script count =
       script = script ∙ sym (ap (script_left th (length st.goals)) s);
       count = count;
     }
+
+-- what is read before the first turn: no lemma and no rule, and so many goals of the script as the first block has
+pub first_read : (th : Theory) (l : Limits) (bs : List (List Goal)) (st : Standing) (r : PassRules) → st ≡ start l bs → r.lemmas ≡ [] → r.own ≡ []
+    → r.count ≡ 0 → r.script ≡ length st.goals → ReadAt th st r
+first_read th l bs st r s lemmas own count script =
+    let P : Standing → Type 0 = λ x. r.script ≡ length x.goals → ReadAt th x r in
+    subst P (sym s) (go bs) script
+  where
+    go : (cs : List (List Goal)) → r.script ≡ length (start l cs).goals → ReadAt th (start l cs) r
+    go [] e = record { rules = record { lemmas = lemmas; own = own }; script = e; count = count }
+    go (b ∷ cs) e = record { rules = record { lemmas = lemmas; own = own }; script = e; count = count }

@@ -1,7 +1,8 @@
 -- Pairs of sides that have stood, the last first.
-use Rattle.std.proofs.Common.{◌≡◌, Bool, true, false, ◌||◌, ◌&&◌, List, [], ◌∷◌, ◌++◌, refl, ap, sym, ◌∙◌}
+use Rattle.std.proofs.Common.{◌≡◌, ◌↔◌, Bool, true, false, IsTrue, ◌||◌, ◌&&◌, List, [], ◌∷◌, ◌++◌, refl, ap, sym, ◌∙◌}
 use Rattle.circ_term.specs.Tree.{Tree}
 use Rattle.circ_term.specs.Order.{is_same}
+use Rattle.circ_join.proofs.Joins.{not_same, is_same_at}
 use Rattle.circ_attempt.specs.Attempt.{Stood, has_stood}
 use Rattle.circ_rewriting_turn.specs.Passed.{plain_sides, plain_passed}
 use Rattle.circ_rewriting_turn.specs.declared.passed.PassedSides.{PassedSides}
@@ -9,6 +10,15 @@ use Rattle.circ_rewriting_turn.specs.declared.passed.PassedSides.{PassedSides}
 pub passed_push : (ss : List PassedSides) (s : PassedSides) → plain_passed (ss ++ s ∷ []) ≡ plain_sides s ∷ plain_passed ss
 passed_push [] s = refl
 passed_push (t ∷ ss) s = ap (λ x. x ++ plain_sides t ∷ []) (passed_push ss s)
+
+pub and_false : (a : Bool) → false ≡ (a && false)
+and_false true = refl
+and_false false = refl
+
+-- a test of equality is the test of the definitions
+pub told : (b : Bool) (t u : Tree) → (IsTrue b ↔ (t ≡ u)) → b ≡ is_same t u
+told true t u h = sym (is_same_at t u (h.0 refl))
+told false t u h = sym (not_same false t u h refl)
 
 or_assoc : (a b c : Bool) → ((a || b) || c) ≡ (a || (b || c))
 or_assoc true b c = refl

@@ -1,5 +1,6 @@
 //! Pairs of sides to which a lemma pass was made.
-ghost use Rattle.std.specs.Prelude.{◌≡◌, [], ◌∷◌, OnOk};
+ghost use Rattle.std.specs.Prelude.{◌≡◌, ◌&&◌, [], ◌∷◌, OnOk};
+ghost use Rattle.circ_term.specs.Order.{is_same};
 ghost use Rattle.circ_attempt.specs.Attempt.{has_stood};
 ghost use Rattle.circ_rewriting_turn.specs.Passed.{plain_sides};
 
@@ -67,10 +68,22 @@ impl Passed {
         ensures { result ≡ has_stood left.now right.now self.now }
     {
         for sides in &self.pairs {
-            if left.same(&sides.left) && right.same(&sides.right) {
+            if sides.are(left, right) {
                 return true;
             }
         }
         false
+    }
+}
+
+impl PassedSides {
+    // Whether these are the sides. A side that stays while the other changes is not walked.
+    fn are(&self, left: &Term, right: &Term) -> bool
+        ensures { result ≡ (is_same left.now self.now.left && is_same right.now self.now.right) }
+    {
+        if right.fingerprint() != self.right.fingerprint() {
+            return false;
+        }
+        left.same(&self.left) && right.same(&self.right)
     }
 }

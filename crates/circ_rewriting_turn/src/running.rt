@@ -54,6 +54,7 @@ fn run_rewriting(search: &Search<'_>, state: &mut State<'_>) -> Result<(), End>
     let mut passed = Passed::new(search.alloc);
     let done = turns(search, &mut rules, &mut passes, &mut passed, state);
     drop(rules);
+    drop(passes);
     done
 }
 

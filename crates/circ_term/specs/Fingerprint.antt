@@ -1,10 +1,14 @@
 -- A number by which most different terms differ at once: equal terms have equal ones.
-use Rattle.std.specs.Prelude.{ℕ, ◌+◌, ◌*◌, ◌%◌, ◌^◌}
+use Rattle.std.specs.Prelude.{ℕ, ◌+◌, ◌*◌, ◌/◌, ◌%◌, ◌^◌}
 use Rattle.circ_term.specs.Tree.{Tree, Trees, Var, App, none, more}
 
--- one more number goes in
+-- the upper bits of a number go into the lower ones too
+abbrev pub spread : ℕ → ℕ
+spread x = (x + x / 2 ^ 15) * 2246822519 % 2 ^ 32
+
+-- one more number goes in, so that the order of numbers counts
 abbrev pub mixed : ℕ → ℕ → ℕ
-mixed h k = (h + k + 1) * 625341585 % 2 ^ 32
+mixed h k = spread ((h * 2654435761 + k + 1) % 2 ^ 32)
 
 -- of a variable its number and its sort, of an application its operator, its sort and its arguments from the left
 abbrev mutual

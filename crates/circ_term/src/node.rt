@@ -6,7 +6,7 @@ ghost use Rattle.std.specs.Option.{option_copied};
 ghost use Rattle.circ_term.specs.Tree.{Var, App, trees_of, args_of, at, replaced};
 ghost use Rattle.circ_term.specs.Tree.{size_of, depth_of, sort_of, is_ground};
 ghost use Rattle.circ_term.specs.Tree.{variable_number, operator_number};
-ghost use Rattle.circ_term.specs.Fingerprint.{mixed, fingerprint_of};
+ghost use Rattle.circ_term.specs.Fingerprint.{spread, mixed, fingerprint_of};
 ghost use Rattle.circ_term.specs.Kind.{tree_of_kind};
 ghost use Rattle.circ_term.specs.Order.{tree_cmp, trees_cmp};
 ghost use Rattle.circ_term.specs.Limits.{Builds, BuildsSome, IsWithinLimits};
@@ -384,12 +384,21 @@ impl Term {
     }
 }
 
-// One more number goes into a fingerprint.
-fn mixed(fingerprint: u32, next: u32) -> u32
+/// One more number goes into a fingerprint: how that of an application is made of its operator, its
+/// sort and the fingerprints of its arguments.
+pub fn mixed(fingerprint: u32, next: u32) -> u32
     ensures { result ≡ mixed fingerprint next }
 {
-    let sum = fingerprint as u64 + next as u64 + 1;
-    (sum * 625_341_585 % 4_294_967_296) as u32
+    let sum = fingerprint as u64 * 2_654_435_761 + next as u64 + 1;
+    spread((sum % 4_294_967_296) as u32)
+}
+
+// The upper bits of a number go into the lower ones too.
+fn spread(number: u32) -> u32
+    ensures { result ≡ spread number }
+{
+    let number = number as u64;
+    ((number + number / 32_768) * 2_246_822_519 % 4_294_967_296) as u32
 }
 
 // The fingerprint of a variable, and of an application before its arguments.

@@ -1,11 +1,12 @@
 use Rattle.std.proofs.Common.{◌∙◌, ◌<◌, length, get_or, arith, refl, ap, sym}
+use Rattle.std.specs.Ordering.{ordering_then}
 use Rattle.circ_term.specs.Tree.{depth_of}
 use Rattle.circ_term.specs.Order.{tree_cmp}
 use Rattle.circ_term.proofs.Order.{tree_same}
 use Rattle.circ_theory.proofs.Lists.{all_read}
 use Rattle.circ_nodes.proofs.Numbers.{all_below}
 use Rattle.circ_nodes.specs.Named.{tree_at}
-use Rattle.circ_forms.proofs.Ordered.{vars_told, apps_told, apps_apart, named_app, arg_less, numbers_apart, cmp_next, cmp_decided, cmp_end}
+use Rattle.circ_forms.proofs.Ordered.{vars_told, apps_told, apps_apart, named_app, arg_less, numbers_apart, cmp_next, cmp_decided, cmp_end, decided_then}
 use Rattle.circ_forms.proofs.order.+cmp.Goals as goal
 
 pub cmp-returns-then-a-b : goal.cmp-returns-then-a-b
@@ -58,10 +59,10 @@ cmp-returns-in-Equal t c =
     let b = tree_at nodes c.args.b in
     let e = c.in-Application.ensures in
     let d = c.in-Application-shape_at-2.ensures in
-    apps_told a b _ _ _ _ _ _ _ _ _ c.then-in-Equal.result
+    apps_told a b _ _ _ _ _ _ _ _ _ c.cmp_all.result
     (named_app nodes a c.in-Application.op c.in-Application.sort c.in-Application.args.now e)
     (named_app nodes b c.in-Application-shape_at-2.other_op c.in-Application-shape_at-2.other_sort c.in-Application-shape_at-2.other_args.now d)
-    c.cmp-in-Application-shape_at-2.ensures c.in-Equal.is c.cmp_all.ensures c.cmp-in-Equal.ensures c.then-in-Equal.ensures
+    c.cmp-in-Application-shape_at-2.ensures c.in-Equal.is refl c.cmp-in-Equal.ensures c.cmp_all.ensures
 
 pub cmp-returns-in_default : goal.cmp-returns-in_default
 cmp-returns-in_default t c =
@@ -85,10 +86,11 @@ cmp_all-returns-then-a-i t c =
     let nodes = c.args.nodes.now in
     let within_a : i < length c.args.a.now = omega arith in
     let within_b : i < length c.args.b.now = omega arith in
-    cmp_decided nodes c.args.a.now c.args.b.now i c.cmp.result within_a within_b c.cmp.ensures
-    (numbers_apart nodes (get_or c.args.a.now i 0) (get_or c.args.b.now i 0) c.known.ensures.once
-    (all_read _ c.args.a.now i 0 c.requires.first within_a) (all_read _ c.args.b.now i 0 c.requires.second within_b) c.if-a-i.true)
-    ∙ c.loop-i.invariant
+    let apart = numbers_apart nodes (get_or c.args.a.now i 0) (get_or c.args.b.now i 0) c.known.ensures.once
+    (all_read _ c.args.a.now i 0 c.requires.first within_a) (all_read _ c.args.b.now i 0 c.requires.second within_b) c.if-a-i.true in
+    decided_then c.cmp.result _ c.args.otherwise
+    (cmp_decided nodes c.args.a.now c.args.b.now i c.cmp.result within_a within_b c.cmp.ensures apart ∙ c.loop-i.invariant)
+    (λ e. apart (sym c.cmp.ensures ∙ e))
 
 pub cmp_all-loop-i-preserved : goal.cmp_all-loop-i-preserved
 cmp_all-loop-i-preserved t c =
@@ -96,4 +98,6 @@ cmp_all-loop-i-preserved t c =
 
 pub cmp_all-returns : goal.cmp_all-returns
 cmp_all-returns t c =
-    c.cmp-2.ensures ∙ cmp_end c.args.nodes.now c.args.a.now c.args.b.now c.loop-i.i (omega arith) (omega arith) (omega arith) ∙ c.loop-i.invariant
+    c.then.ensures
+    ∙ ap (λ o. ordering_then o c.args.otherwise)
+    (c.cmp-2.ensures ∙ cmp_end c.args.nodes.now c.args.a.now c.args.b.now c.loop-i.i (omega arith) (omega arith) (omega arith) ∙ c.loop-i.invariant)

@@ -1,14 +1,18 @@
-use Rattle.std.proofs.Common.{◌≡◌, ℕ, ◌+◌, length, refl, ap, sym, subst, ◌∙◌, arith}
-use Rattle.circ_nodes.specs.Named.{tree_at}
+use Rattle.std.proofs.Common.{◌≡◌, ℕ, ◌+◌, ◌-◌, ◌<◌, [], ◌∷◌, length, refl, ap, sym, subst, ◌∙◌, arith, length-append}
+use Rattle.std.proofs.lemmas.Option.{slice_get_read}
+use Rattle.circ_nodes.specs.Named.{IsNamed, tree_at}
 use Rattle.circ_nodes.proofs.Numbers.{named_below, named_one, named_later, all_below, are_named_later, grows_self}
+use Rattle.circ_chain.specs.Chain.{Chain, RunsOut}
+use Rattle.circ_chain.proofs.Chains.{out_on}
 use Rattle.circ_due.specs.Chosen.{due_by}
-use Rattle.circ_memo.specs.Settling.{IsPassing, HasPassed, IsToKeep, Stops, passed_count}
+use Rattle.circ_memo.specs.Settling.{IsPassing, ArePassed, HasPassed, IsToKeep, Stops, passed_count}
 use Rattle.circ_memo.specs.Working.{IsStore, Extends, HasWorked}
 use Rattle.circ_memo.specs.declared.store.Store.{Store}
 use Rattle.circ_memo.proofs.Arguments.{arg_at, arg_is, arg_inside, arg_measure, arg_small, passing_still, passing_stops, variable_way, within_of}
 use Rattle.circ_memo.proofs.Forms.{kept_later, passing_later, way_later, are_passed_later}
 use Rattle.circ_memo.proofs.Telling.{stays_self, way_kept_later, linked_on, number_more, has_passed_later, passed_stays, passed_next, passed_all}
-use Rattle.circ_memo.proofs.Stepping.{are_passed_in, passed_on, passed_chain, count_on, stops_on, way_stops}
+use Rattle.circ_memo.proofs.Stepping.{are_passed_in, passed_on, passed_at, passed_chain, count_on, stops_on, way_stops}
+use Rattle.circ_memo.proofs.Circling.{out_again}
 use Rattle.circ_memo.proofs.Stores.{store_later, store_kept, extends_self, extends_on, extends_by, worked_self, worked_later, are_linked_extends, depth_named_is}
 use Rattle.circ_memo.proofs.settling.+settle.Goals.{turn-After-keep_settled, settle-After-keep_steps}
 use Rattle.circ_memo.proofs.settling.+settle.Goals as goal
@@ -418,8 +422,52 @@ settle-loop-stop-preserved t c =
           (linked_on c.turn.new.store.nodes c.turn.new.store.entries c.args.number c.loop-stop.steps.items c.loop-stop.here c.in-Ok-Stepped.step
           (are_linked_extends c.loop-stop.store c.turn.new.store c.turn.ensures.worked.extends c.args.number c.loop-stop.steps.items c.loop-stop.here i.linked) (rw c.in-Ok-Stepped.field-0-is at c.in-Ok-Stepped.ensures.kept));
       count = omega (arith, ap passed_count items, count_on c.loop-stop.steps.items c.in-Ok-Stepped.step, stepped.2, i.count);
+      mark = omega (arith, c.next_mark-mark.ensures, c.len.ensures);
       below = omega (arith, depth_named_is c.turn.new.store.nodes c.in-Ok-Stepped.step.next stepped.0 stepped.1.next, stepped.1.shallow, w.5.deep, stepped.2, i.count);
     }
+
+pub settle-index-requires : goal.settle-index-requires
+settle-index-requires t c =
+    omega (
+      arith,
+      c.loop-stop.invariant.mark,
+      ap length c.in_ok-push-in-Ok-Stepped.ensures.items,
+      length-append c.loop-stop.steps.items (c.in-Ok-Stepped.step ∷ []),
+    )
+
+pub settle-returns-then-index-here-clause-worked : goal.settle-returns-then-index-here-clause-worked
+settle-returns-then-index-here-clause-worked t c = record {
+  store = c.turn.ensures.worked.store;
+  extends = extends_on c.args.store.now c.loop-stop.store c.turn.new.store c.loop-stop.invariant.extends c.turn.ensures.worked.extends;
+  less = omega arith;
+}
+
+pub settle-returns-then-index-here-clause-settles : goal.settle-returns-then-index-here-clause-settles
+settle-returns-then-index-here-clause-settles t c = λ u n.
+    let due = due_by c.args.means.now in
+    let nodes = c.turn.new.store.nodes in
+    let b = c.args.bounds in
+    let k = c.args.budget.now in
+    let i = c.loop-stop.invariant in
+    let w = i.way in
+    let all = c.push.new.self.items in
+    let items = c.in_ok-push-in-Ok-Stepped.ensures.items in
+    let same = named_one c.args.store.now.nodes c.args.number w.0 u w.2 n in
+    let stepped = rw c.in-Ok-Stepped.field-0-is at (c.in-Ok-Stepped.ensures.turns w.1 w.3) in
+    let before = are_passed_later due c.loop-stop.store.nodes nodes c.turn.ensures.worked.extends.grows b w.0 c.loop-stop.steps.items w.1 w.4 in
+    let passed : ArePassed due nodes b w.0 all stepped.0 =
+    rw items (passed_on due nodes b w.0 c.loop-stop.steps.items w.1 c.in-Ok-Stepped.step stepped.0 before stepped.1) in
+    let inside : c.loop-stop.mark < length all = omega (arith, i.mark, ap length items, length-append c.loop-stop.steps.items (c.in-Ok-Stepped.step ∷ [])) in
+    let marked = slice_get_read all (length all) c.loop-stop.mark c.index.result.now refl inside c.index.ensures in
+    let round = passed_at due nodes b w.0 all stepped.0 c.loop-stop.mark c.index.result.now passed marked in
+    let back : stepped.0 ≡ round.0 = named_one nodes c.in-Ok-Stepped.step.next stepped.0 round.0 stepped.1.next (subst (λ x. IsNamed nodes x round.0) c.if-index-here.true round.1) in
+    let again =
+    out_again due b.big b.deep (k - length round.2) round.4 round.0 round.6 (subst (λ x. Chain due b.big b.deep round.0 round.4 x) back round.5) in
+    let count : length round.2 + (k - length round.2) ≡ k =
+    omega (arith, round.7, ap passed_count items, count_on c.loop-stop.steps.items c.in-Ok-Stepped.step, stepped.2, i.count) in (
+      subst (λ x. RunsOut due b.big b.deep k x) same (out_on due b.big b.deep (k - length round.2) k round.2 w.0 round.0 round.3 again count),
+      refl,
+    )
 
 pub settle_arg-returns-then-is_still-clause-kept : goal.settle_arg-returns-then-is_still-clause-kept
 settle_arg-returns-then-is_still-clause-kept t c = λ u h.
@@ -468,6 +516,7 @@ settle-loop-stop-init t c =
       way = (i.0, i.0, i.1, i.1, refl, i.2);
       linked = refl;
       count = omega arith;
+      mark = omega arith;
       below = omega arith;
     })
 

@@ -29,6 +29,7 @@ invariant-settle-loop-stop l = record {
       × IsWithin l.bounds u;
   linked : AreLinked l.store.nodes l.store.entries l.number l.steps.items l.here;
   count : passed_count l.steps.items + l.budget ≡ l.initial.budget;
+  mark : l.mark ≤ length l.steps.items;
   below : l.budget * 4004 + 4 * depth_named l.store.nodes l.here ≤ l.initial.budget * 4004 + 4 * depth_named l.initial.store.nodes l.number;
 }
 

@@ -29,6 +29,21 @@ turn-requires-clause-derived c =
     let P : Standing → Type 0 = λ x. ComesRewriting th G m (going x []) (going (standing c.loop-end.state) c.loop-end.passed) in
     c.derives_are_hypotheses.ensures th G m c.requires.start.blocks (going (standing c.loop-end.state) c.loop-end.passed) (subst P c.requires.start.start c.loop-end.invariant.comes)
 
+pub turn-requires-clause-rules : goal.turn-requires-clause-rules
+turn-requires-clause-rules c = c.loop-end.invariant.rules
+
+pub turn-requires-clause-passes : goal.turn-requires-clause-passes
+turn-requires-clause-passes c = c.loop-end.invariant.passes
+
+pub turn-requires-clause-small : goal.turn-requires-clause-small
+turn-requires-clause-small c =
+    let th = c.args.search.now.theory.now in
+    let G = c.args.search.now.gamma.now in
+    let m = rewriting_by c.args.search.now in
+    let P : Standing → Type 0 = λ x. ComesRewriting th G m (going x []) (going (standing c.loop-end.state) c.loop-end.passed) in
+    c.standings_are_small.ensures th c.known.ensures G m c.requires.start.blocks c.requires.start.searchable (going (standing c.loop-end.state) c.loop-end.passed)
+    (subst P c.requires.start.start c.loop-end.invariant.comes)
+
 pub turn-requires-clause-ready : goal.turn-requires-clause-ready
 turn-requires-clause-ready c = λ g rest n q e.
     let th = c.args.search.now.theory.now in
