@@ -1,73 +1,18 @@
-//! What no clause says: that an index and a memo are used, and that there is memory.
+//! What no clause says: that a memo is used, and its rows of rules, and that there is memory.
 ghost use Rattle.std.specs.Prelude.{◌≡◌, [], IfOk};
 ghost use Rattle.std.specs.List.{AllByRecursion};
 ghost use Rattle.circ_term.specs.Tree.{App, none};
 ghost use Rattle.circ_rewrite.specs.Due.{IsRewriteRule, AreUnconditional};
 
 use circ_form::Form;
-use circ_index::{PairIndex, RuleIndex};
 use circ_memo::Memo;
 use circ_rewrite::{RewriteFault, Rule, RuleName};
-use circ_term::{Subst, Term, TermFault};
+use circ_term::{Term, TermFault};
 use circ_theory::{OpDecl, Pairs, Side, Theory, TheoryFault};
 use itoa::Buffer;
-use std::alloc::{AllocError, Global};
+use std::alloc::Global;
 
 const CONSTANTS: u32 = 60_000;
-
-// Whether a variable is given this term.
-fn is_given(given: &Subst, number: u32, sort: u32, term: &Term) -> bool {
-    match given.get(number, sort) {
-        Some(bound) => bound.same(term),
-        None => false,
-    }
-}
-
-// Whether the second of two left sides, of another sort than the first, is found for a variable,
-// and its own variable is given that one.
-fn finds_second_left(index: &mut RuleIndex, term: &Term) -> Result<bool, AllocError>
-    requires { index.old ≡ [] }
-{
-    index.add(&Term::var(0, 1))?;
-    index.add(&Term::var(0, 0))?;
-    match index.first(0, term)? {
-        Some((number, given)) => Ok(number == 1 && is_given(&given, 0, 0, term)),
-        None => Ok(false),
-    }
-}
-
-fn second_left_is_found(alloc: Global) -> Result<bool, AllocError> {
-    let mut index = RuleIndex::new(alloc);
-    let found = finds_second_left(&mut index, &Term::var(5, 0));
-    drop(index);
-    found
-}
-
-// Whether a pair is found turned, and each of its variables is given that of its own sort.
-fn finds_turned_pair(index: &mut PairIndex, first: &Term, second: &Term) -> Result<bool, AllocError>
-    requires { index.old ≡ [] }
-{
-    index.add(&Term::var(0, 0), &Term::var(0, 1))?;
-    match index.first(0, first, second)? {
-        Some((place, given)) => {
-            Ok(place == 1 && is_given(&given, 0, 0, second) && is_given(&given, 0, 1, first))
-        }
-        None => Ok(false),
-    }
-}
-
-fn turned_pair_is_found(alloc: Global) -> Result<bool, AllocError> {
-    let mut index = PairIndex::new(alloc);
-    let found = finds_turned_pair(&mut index, &Term::var(7, 1), &Term::var(7, 0));
-    drop(index);
-    found
-}
-
-#[test]
-fn indexes(rt: HostRuntime) {
-    assert!(rt; second_left_is_found(rt.alloc()) == Ok(true));
-    assert!(rt; turned_pair_is_found(rt.alloc()) == Ok(true));
-}
 
 fn declared(alloc: Global, number: u32) -> Result<OpDecl, TheoryFault> {
     let mut digits = Buffer::new();
