@@ -20,7 +20,7 @@ use Rattle.circ_refute.proofs.Differences.{refutation_right}
 
 -- it is the first
 right_here : (th : Theory) (i : ℕ) (g : Goal) (gs : List Goal) (r : Refuted) → IsRight th g r → IsRightOf th i (g ∷ gs) i r
-right_here th i g gs (Told_apart ws l m) h = let z : 0 ≡ i - i = omega arith in (g, ap (slice_get (g ∷ gs)) (sym z), h)
+right_here th i g gs (Told_apart ws l m) h = let z : 0 ≡ i - i = omega arith in (g, ap (slice_get (g ∷ gs)) (sym z), h, omega arith)
 right_here th i g gs Alike h = tt
 right_here th i g gs Spent h = tt
 right_here th i g gs (Past_limit x) h = tt
@@ -28,7 +28,7 @@ right_here th i g gs (Past_limit x) h = tt
 -- it is one of the others
 right_later : (th : Theory) (i n : ℕ) (g : Goal) (gs : List Goal) (r : Refuted) → i + 1 ≤ n → IsRightOf th (i + 1) gs n r → IsRightOf th i (g ∷ gs) n r
 right_later th i n g gs (Told_apart ws l m) h x =
-    let z : n - i ≡ suc (n - (i + 1)) = omega (arith, h) in (x.0, ap (slice_get (g ∷ gs)) z ∙ x.1, x.2)
+    let z : n - i ≡ suc (n - (i + 1)) = omega (arith, h) in (x.0, ap (slice_get (g ∷ gs)) z ∙ x.1, x.2, omega (arith, h))
 right_later th i n g gs Alike h x = tt
 right_later th i n g gs Spent h x = tt
 right_later th i n g gs (Past_limit limit) h x = tt

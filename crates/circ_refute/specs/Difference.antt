@@ -1,5 +1,5 @@
 -- What a difference shows.
-use Rattle.std.specs.Prelude.{◌≡◌, ◌≢◌, ◌-◌, ℕ, List, [], false, Some}
+use Rattle.std.specs.Prelude.{◌≡◌, ◌≢◌, ◌≤◌, ◌-◌, ℕ, List, [], false, Some}
 use Rattle.std.specs.List.{slice_get, Contains, AllByRecursion}
 use Rattle.circ_term.specs.Tree.{Tree, App, none, sort_of}
 use Rattle.circ_theory.specs.Theory.{Theory, CaseList}
@@ -46,7 +46,7 @@ IsRight th g (Past_limit limit) = Unit {0}
 
 -- what is found of goals, of which the first has number i, is right: where two sides are told apart, they are those of the goal that decides
 abbrev pub IsRightOf : Theory → (i : ℕ) → List Goal → (number : ℕ) → Refuted → Type 0
-IsRightOf th i gs n (Told_apart ws l m) = (g : Goal) × (slice_get gs (n - i) ≡ Some g) × DiffersBy th g ws l m
+IsRightOf th i gs n (Told_apart ws l m) = (g : Goal) × (slice_get gs (n - i) ≡ Some g) × DiffersBy th g ws l m × (i ≤ n)
 IsRightOf th i gs n Alike = Unit {0}
 IsRightOf th i gs n Spent = Unit {0}
 IsRightOf th i gs n (Past_limit limit) = Unit {0}

@@ -66,8 +66,8 @@ impl<'a> Refuter<'a> {
         })
     }
 
-    // What is found of a goal, with what is left of the budgets. After want of memory they hold
-    // what was left.
+    // What is found of a goal, with what is left of the budgets. After want of memory they hold no
+    // more than before.
     pub(crate) fn refute(&mut self, goal: &Goal) -> Result<Refuted, AllocError>
         requires reducer { self.old.reducer ≡ rewriting_in self.old.theory.now }
         requires sorted { IsWellSortedPair self.old.theory.now.signature (sides goal.now) }

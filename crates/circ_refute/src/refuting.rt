@@ -18,8 +18,8 @@ use std::alloc::{AllocError, Global};
 
 /// Looks for an experiment that leads the sides of a goal without conditions to two different
 /// constants of one case list, with at most so many rewrites and tries of conditions, and so many
-/// expanded pairs. Both budgets fall by what was used; after want of memory they hold what was
-/// left.
+/// expanded pairs. Both budgets fall by what was used. After want of memory they hold what was left;
+/// the clauses say only that this is no more than before.
 pub fn refute(
     alloc: Global,
     theory: &Theory,

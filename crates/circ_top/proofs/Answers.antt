@@ -357,6 +357,7 @@ module _ (words : List (List ℕ)) (before after : ShelfState) (start end : Sink
             takes_theory = record { bytes = w.takes_theory.bytes; well_formed = w.takes_theory.well_formed; reads = w.takes_theory.reads };
             takes_script = w.takes_script;
             goal = w.ends.decision.goal;
+            counted = y.counted;
             told_apart = y.told_apart;
             goal_is = y.goal_is;
             entries = y.entries;

@@ -1,5 +1,5 @@
 -- What `differ` answers.
-use Rattle.std.proofs.Common.{◌≡◌, ◌-◌, ℕ, List, length, refl, sym, ◌∙◌, ap, subst, Option, Some, None}
+use Rattle.std.proofs.Common.{◌≡◌, ◌-◌, ◌≤◌, ℕ, List, length, refl, sym, ◌∙◌, ap, subst, Option, Some, None}
 use Rattle.std.specs.List.{slice_get}
 use Rattle.circ_outer.specs.Shelf.{ShelfState}
 use Rattle.circ_term.specs.Tree.{Tree}
@@ -51,6 +51,7 @@ module _ (th : Theory) (g n d : ℕ) where
 
   -- what status 11 says
   pub record Apart (gs : List Goal) (count : ℕ) (text : List ℕ) : Type 0 where
+    pub counted : 1 ≤ g
     pub told_apart : Goal
     pub goal_is : slice_get gs (g - 1) ≡ Some told_apart
     pub entries : List Written
@@ -67,6 +68,7 @@ module _ (th : Theory) (g n d : ℕ) where
   apart : (gs : List Goal) (count : ℕ) (text : List ℕ) (stored : Option Stored) (r : Refuted) → IsRightOf th 1 gs g r
       → refuted_ending th g n d r ≡ ending (status.Differ count) text stored → Apart gs count text
   apart gs count text stored (Told_apart ws l m) right e = record {
+    counted = right.3;
     told_apart = right.0;
     goal_is = right.1;
     entries = ws;

@@ -1,5 +1,5 @@
 -- What `differ` does: its outcome, and what it answers.
-use Rattle.std.specs.Prelude.{◌≡◌, ℕ, ◌-◌, List, length, Option, Some}
+use Rattle.std.specs.Prelude.{◌≡◌, ◌≤◌, ℕ, ◌-◌, List, length, Option, Some}
 use Rattle.std.specs.List.{slice_get}
 use Rattle.circ_outer.specs.Shelf.{ShelfState, IsQuiet}
 use Rattle.circ_outer.specs.Sink.{SinkState}
@@ -45,6 +45,7 @@ pub record TellsApart (theory script : List ℕ) (n : ℕ) (before after : Shelf
   pub takes_theory : TakesTheory theory th before
   pub takes_script : TakesScript script th job.Differ sc before
   pub goal : ℕ
+  pub counted : 1 ≤ goal
   pub told_apart : Goal
   pub goal_is : slice_get (goals_in sc.blocks) (goal - 1) ≡ Some told_apart
   pub entries : List Written
