@@ -9,7 +9,7 @@ use Rattle.circ_term.specs.Substitution.{Substitution, instance}
 use Rattle.circ_term.proofs.Order.{same_here}
 use Rattle.circ_theory.specs.Signature.{Signature, Operator, IsWellSorted, HaveSorts, IsSubstitution}
 use Rattle.circ_theory.proofs.Rewriting.{none_hold}
-use Rattle.circ_theory.specs.declared.parts.Goal.{Goal}
+use Rattle.circ_theory.specs.Goal.{Goal}
 use Rattle.circ_theory.specs.Theory.{Theory, Pair, goal, twice, IsEquation, associative, commutative, idempotent}
 use Rattle.circ_theory.specs.Derivable.{Derivable, by_same, by_symmetry, by_chain, by_operator, by_equation, more_args, no_args}
 use Rattle.circ_aci.specs.Content.{put_term, sorted_terms}

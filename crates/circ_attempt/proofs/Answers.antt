@@ -3,7 +3,7 @@ use Rattle.std.proofs.Common.{◌≡◌, ℕ, zero, suc, ◌+◌, ◌-◌, ◌�
 use Rattle.std.proofs.lemmas.List.{length-map}
 use Rattle.circ_term.specs.Tree.{Tree}
 use Rattle.circ_theory.specs.Theory.{Theory, goal}
-use Rattle.circ_theory.specs.declared.parts.Goal.{Goal}
+use Rattle.circ_theory.specs.Goal.{Goal}
 use Rattle.circ_special.specs.declared.place.Place.{Place}
 use Rattle.circ_proof.specs.Plain.{ChainOf, Same_why}
 use Rattle.circ_proof.specs.Proof.{step_limit}

@@ -2,7 +2,7 @@
 use Rattle.std.proofs.Common.{◌≡◌, List, ◌∷◌, Ok, refl, subst, arith}
 use Rattle.circ_theory.specs.Theory.{Theory, goal}
 use Rattle.circ_theory.specs.WellFormed.{IsWellFormed}
-use Rattle.circ_theory.specs.declared.parts.Goal.{Goal}
+use Rattle.circ_theory.specs.Goal.{Goal}
 use Rattle.circ_special.specs.declared.place.Place.{Place}
 use Rattle.circ_plain_search.specs.BlockRules.{block_rules}
 use Rattle.circ_plain_search.specs.Search.{Standing, Ending, Sides}

@@ -4,7 +4,7 @@ use Rattle.std.specs.Prelude.{false, nat_lt}
 use Rattle.std.proofs.lemmas.List.{drop-append-le}
 use Rattle.circ_term.specs.Tree.{Tree, sort_of}
 use Rattle.circ_theory.specs.Theory.{Theory}
-use Rattle.circ_theory.specs.declared.parts.Goal.{Goal}
+use Rattle.circ_theory.specs.Goal.{Goal}
 use Rattle.circ_proof.specs.Rules.{ProofStep, Simplify, Reduce, Derive, Cases, Done}
 use Rattle.circ_plain_search.specs.Search.{constants_of}
 use Rattle.circ_attempt.specs.Attempt.{derived_rules}

@@ -1,7 +1,7 @@
 -- Without the flag each turn is that of the search with conditions, and so is what is found; and a turn whose attempt closes nothing.
 use Rattle.std.proofs.Common.{◌≡◌, ℕ, true, false, if◌then◌else◌, List, [], None, refl, ap, sym, ◌∙◌}
 use Rattle.circ_theory.specs.Theory.{Theory}
-use Rattle.circ_theory.specs.declared.parts.Goal.{Goal}
+use Rattle.circ_theory.specs.Goal.{Goal}
 use Rattle.circ_special.specs.declared.place.Place.{Place}
 use Rattle.circ_conditional_norm.specs.Work.{Made}
 use Rattle.circ_plain_search.specs.Numbering.{Found}

@@ -4,7 +4,7 @@ use Rattle.std.specs.List.{list_any}
 use Rattle.circ_term.specs.Tree.{Tree}
 use Rattle.circ_term.specs.Order.{is_same}
 use Rattle.circ_theory.specs.Theory.{Theory, Pair}
-use Rattle.circ_theory.specs.declared.parts.Goal.{Goal}
+use Rattle.circ_theory.specs.Goal.{Goal}
 use Rattle.circ_special.specs.declared.place.Place.{Place}
 use Rattle.circ_proof.specs.Plain.{ChainOf}
 use Rattle.circ_rewrite.specs.Links.{link_of}

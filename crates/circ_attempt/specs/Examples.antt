@@ -3,7 +3,7 @@ use Rattle.std.specs.Prelude.{ℕ, zero, suc, Bool, true, false, List, [], ◌�
 use Rattle.circ_term.specs.Tree.{Tree, Var}
 use Rattle.circ_theory.specs.Theory.{Theory, goal}
 use Rattle.circ_theory.specs.Examples.{plain_op}
-use Rattle.circ_theory.specs.declared.parts.Goal.{Goal}
+use Rattle.circ_theory.specs.Goal.{Goal}
 use Rattle.circ_special.specs.Special.{place}
 use Rattle.circ_plain_search.specs.Examples.{equation, constant, on_one, on_two}
 use Rattle.circ_plain_search.specs.Numbering.{Found, Special, special}

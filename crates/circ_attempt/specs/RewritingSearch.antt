@@ -1,7 +1,7 @@
 -- What the search with `--rewrite` finds (`RewritingSearch`), and where it comes to on its way.
 use Rattle.std.specs.Prelude.{◌≡◌, List, [], map, Ok}
 use Rattle.circ_theory.specs.Theory.{Theory}
-use Rattle.circ_theory.specs.declared.parts.Goal.{Goal}
+use Rattle.circ_theory.specs.Goal.{Goal}
 use Rattle.circ_special.specs.declared.place.Place.{Place}
 use Rattle.circ_rewrite.specs.Links.{link_of}
 use Rattle.circ_rewrite.specs.Replacement.{Traced}

@@ -3,7 +3,7 @@ ghost use Rattle.std.specs.Prelude.{◌≡◌, ◌≤◌, ℕ, Bool, List, true}
 ghost use Rattle.circ_term.specs.Limits.{Limit};
 ghost use Rattle.circ_term.specs.Tree.{Tree};
 ghost use Rattle.circ_theory.specs.Theory.{Theory, Pair};
-ghost use Rattle.circ_theory.specs.declared.parts.Goal.{Goal};
+ghost use Rattle.circ_theory.specs.Goal.{Goal};
 ghost use Rattle.circ_special.specs.declared.place.Place.{Place};
 ghost use Rattle.circ_conditional_norm.specs.Work.{Out, Past, LeavesAtMost};
 ghost use Rattle.circ_attempt.specs.Attempt.{attempt, attempt_limit};

@@ -5,7 +5,7 @@ use Rattle.std.proofs.Math.Bool.{or_assoc}
 use Rattle.std.proofs.lemmas.List.{drop_more}
 use Rattle.circ_term.specs.Tree.{Tree}
 use Rattle.circ_theory.specs.Theory.{Theory}
-use Rattle.circ_theory.specs.declared.parts.Goal.{Goal}
+use Rattle.circ_theory.specs.Goal.{Goal}
 use Rattle.circ_proof.specs.Plain.{LinkOf, row_of, plain_links, plain_chain, plain_chains}
 use Rattle.circ_proof.specs.declared.links.Chain.{Chain}
 use Rattle.circ_conditional_search.specs.Search.{link_is_deep, row_is_deep, chain_is_deep, chains_are_deep}

@@ -15,7 +15,7 @@ use Rattle.circ_theory.specs.Observing.{parameters_in}
 use Rattle.circ_theory.specs.Fresh.{fresh_in, derivatives_of}
 use Rattle.circ_theory.proofs.Casing.{contains_first}
 use Rattle.circ_theory.proofs.Weakening.{in_rest}
-use Rattle.circ_theory.specs.declared.parts.Goal.{Goal}
+use Rattle.circ_theory.specs.Goal.{Goal}
 use Rattle.circ_proof.specs.Rules.{derived_goal, derivatives_on}
 use Rattle.circ_proof.proofs.Members.{from_filter}
 use Rattle.circ_rules.specs.Derivatives.{Cause, No_numbers, Past, sides_limit, cause_on, first_cause, limit_in, MakesDerivatives}

@@ -4,7 +4,7 @@ use Rattle.std.proofs.Common.{Global}
 use Rattle.std.specs.declared.collections.VecDeque.{VecDeque}
 use Rattle.circ_theory.specs.Theory.{Theory, IsWellSortedGoal}
 use Rattle.circ_theory.specs.Fresh.{fresh_in}
-use Rattle.circ_theory.specs.declared.parts.Goal.{Goal}
+use Rattle.circ_theory.specs.Goal.{Goal}
 use Rattle.circ_proof.specs.Rules.{derivatives_on}
 use Rattle.circ_plain_search.specs.Search.{goals_limit, unless_past}
 use Rattle.circ_join.specs.Stopping.{Stops}

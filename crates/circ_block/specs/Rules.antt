@@ -1,7 +1,7 @@
 -- What the rules of a block are.
 use Rattle.std.specs.Prelude.{◌≡◌, ◌<◌, ◌+◌, ◌^◌, ◌++◌, ◌∷◌, List, [], length}
 use Rattle.circ_theory.specs.Theory.{Theory}
-use Rattle.circ_theory.specs.declared.parts.Goal.{Goal}
+use Rattle.circ_theory.specs.Goal.{Goal}
 use Rattle.circ_rewrite.specs.declared.parts.Rule.{Rule}
 use Rattle.circ_memo.specs.Value.{Rewriting}
 use Rattle.circ_plain_search.specs.BlockRules.{block_rules, hidden_lemmas}

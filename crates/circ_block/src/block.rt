@@ -3,7 +3,7 @@ ghost use Rattle.std.specs.Prelude.{◌≡◌, ◌≤◌, ◌<◌, ◌+◌, ◌^
 ghost use Rattle.std.specs.Prelude.{List, length, map, take, true, IfOk, OnOk};
 ghost use Rattle.circ_theory.specs.Pairs.{plain_pair};
 ghost use Rattle.circ_theory.specs.Theory.{Theory as TheTheory};
-ghost use Rattle.circ_theory.specs.declared.parts.Goal.{Goal as TheGoal};
+ghost use Rattle.circ_theory.specs.Goal.{Goal as TheGoal};
 ghost use Rattle.circ_plain_search.specs.BlockRules.{can_rewrite, lemma_rule};
 ghost use Rattle.circ_block.specs.Rules.{IsRulesOf, HaveRoom, with_rule};
 

@@ -6,7 +6,7 @@ use Rattle.circ_book.specs.declared.histories.Met.{Met}
 use Rattle.circ_term.specs.Tree.{Tree, sort_of}
 use Rattle.circ_theory.specs.Theory.{Theory, Pair, goal, sides, Derivative}
 use Rattle.circ_theory.specs.Fresh.{fresh_in, derivatives_of}
-use Rattle.circ_theory.specs.declared.parts.Goal.{Goal}
+use Rattle.circ_theory.specs.Goal.{Goal}
 use Rattle.circ_special.specs.declared.place.Place.{Place}
 use Rattle.circ_proof.specs.Plain.{ChainOf, map_chain}
 use Rattle.circ_proof.specs.Link.{setting, Leads}

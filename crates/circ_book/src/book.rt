@@ -4,7 +4,7 @@ ghost use Rattle.std.specs.Prelude.{IfOk, OnOk};
 ghost use Rattle.std.specs.List.{AllByRecursion};
 ghost use Rattle.circ_theory.specs.Signature.{IsWellSorted};
 ghost use Rattle.circ_theory.specs.Rewriting.{named};
-ghost use Rattle.circ_theory.specs.declared.parts.Goal.{Goal as TheGoal};
+ghost use Rattle.circ_theory.specs.Goal.{Goal as TheGoal};
 ghost use Rattle.circ_proof.specs.PlainProof.{plain_state, plain_steps};
 ghost use Rattle.circ_proof.specs.Rules.{state as state_with, map_step, AllOfStep};
 ghost use Rattle.circ_proof.specs.Rules.{IsSortedState, StepsOf};

@@ -3,7 +3,7 @@ ghost use Rattle.std.specs.Prelude.{◌≡◌, ◌<◌, List, [], length, map, I
 ghost use Rattle.std.specs.List.{AllByRecursion};
 ghost use Rattle.circ_theory.specs.Signature.{IsWellSorted};
 ghost use Rattle.circ_theory.specs.Rewriting.{named};
-ghost use Rattle.circ_theory.specs.declared.parts.Goal.{Goal as TheGoal};
+ghost use Rattle.circ_theory.specs.Goal.{Goal as TheGoal};
 ghost use Rattle.circ_proof.specs.PlainProof.{plain_state, plain_step, plain_steps};
 ghost use Rattle.circ_proof.specs.Rules.{State as PlainState, state as state_with, map_step};
 ghost use Rattle.circ_proof.specs.Rules.{AllOfStep, IsSortedState, StepOf, StepsOf};

@@ -49,7 +49,7 @@ rule_out g ts b s i j [] t h = absurd h
 rule_out g ts b s i j (r ∷ rs) t (inl h) = (0, r, refl, h)
 rule_out g ts b s i j (r ∷ rs) t (inr h) = let k = rule_out g ts b s i j rs t h in (suc k.0, k.1, k.2, k.3)
 
-rule_in : (g : Grammar) (ts : List ℕ) (b s i j : ℕ) (rs : List Rule) (t : Tree) (n : ℕ) (r : Rule) → slice_get rs n ≡ Some r → ByRule g ts b s i j r t → AnyByRule g ts b s i j rs t
+pub rule_in : (g : Grammar) (ts : List ℕ) (b s i j : ℕ) (rs : List Rule) (t : Tree) (n : ℕ) (r : Rule) → slice_get rs n ≡ Some r → ByRule g ts b s i j r t → AnyByRule g ts b s i j rs t
 rule_in g ts b s i j [] t n r e h = absurd (cc)
 rule_in g ts b s i j (x ∷ rs) t zero r e h = let q : r ≡ x = cc in let P : Rule → Type 0 = λ y. ByRule g ts b s i j y t in inl (subst P q h)
 rule_in g ts b s i j (x ∷ rs) t (suc n) r e h = inr (rule_in g ts b s i j rs t n r e h)
@@ -479,7 +479,7 @@ no_word_row g ts w ps qs i j is n args h =
     n args (row_case g ts (Word w ∷ qs) i j args (subst P is h)).rest
 
 -- words behind a hole say where it ends
-words_end : (g : Grammar) (ts : List ℕ) (qs : List Symbol) (m j : ℕ) (args : Trees) → AreWords qs → Row g ts qs m j args → m + length qs ≡ j
+pub words_end : (g : Grammar) (ts : List ℕ) (qs : List Symbol) (m j : ℕ) (args : Trees) → AreWords qs → Row g ts qs m j args → m + length qs ≡ j
 words_end g ts [] m j args w h = let k = (row_case g ts [] m j args h).0 in omega arith
 words_end g ts (Word x ∷ ps) m j args w h = let k = words_end g ts ps (m + 1) j args w (row_case g ts (Word x ∷ ps) m j args h).rest in omega arith
 words_end g ts (Hole s b ∷ ps) m j args w h = absurd w

@@ -10,7 +10,7 @@ ghost use Rattle.circ_spelling.specs.declared.grammar.Grammar.{Grammar};
 ghost use Rattle.circ_spelling.specs.Words.{HaveWords};
 ghost use Rattle.circ_spelling.specs.Reads.{Row};
 
-use circ_spelling::{Rule, Step, Symbol, step_at};
+use circ_spelling::{Rule, Step, Symbol, are_words, step_at};
 use std::alloc::{AllocError, Global};
 
 // For each place of the tokens the next one, from there on, where a word stands, or their end.
@@ -112,8 +112,9 @@ pub fn next_at(table: &[usize], place: usize) -> usize
     }
 }
 
-/// Whether a rule may spell a range: there is a token for each symbol, and what is behind its first
-/// symbol can begin in the range. If not, no row of its symbols goes over the range.
+/// Whether a rule may spell a range: there is a token for each symbol, and for no other where all
+/// are words, and what is behind its first symbol can begin in the range. If not, no row of its
+/// symbols goes over the range.
 pub fn can_span(
     tokens: &[u32],
     tables: &[Tables],
@@ -129,6 +130,9 @@ pub fn can_span(
         rule.now.symbols.items from to args → ⊥ }
 {
     if rule.symbols.len() > to - from {
+        return false;
+    }
+    if rule.symbols.len() != to - from && are_words(&rule.symbols) {
         return false;
     }
     match step_at(&rule.symbols, 0) {

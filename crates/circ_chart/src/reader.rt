@@ -5,7 +5,8 @@ ghost use Rattle.circ_term.specs.Tree.{Tree, Trees};
 ghost use Rattle.circ_spelling.specs.declared.grammar.Symbol.TheVariants.{Word};
 ghost use Rattle.circ_chart.specs.Few.{Enough, Or};
 ghost use Rattle.circ_chart.specs.Members.{In, IsApart, KeepsTerms};
-ghost use Rattle.circ_spelling.specs.Words.{words};
+ghost use Rattle.circ_chart.specs.Places.{HaveTables};
+ghost use Rattle.circ_spelling.specs.Words.{words, HaveWords};
 ghost use Rattle.circ_spelling.specs.Limits.{most_tokens};
 ghost use Rattle.circ_spelling.specs.Steps.{AreWords};
 ghost use Rattle.circ_chart.specs.Reader.{IsReady, IsPart, IsHole, symbols_of, behind};
@@ -79,12 +80,54 @@ impl Reader<'_> {
         Ok(kept(self.alloc, memo, question, from, to, few)?)
     }
 
+    // Whether no rule for these terms can span the range.
+    fn spans_none(&self, wanted: Wanted, from: usize, to: usize) -> bool
+        requires words { HaveWords self.now.grammar.now }
+        requires tables { HaveTables self.now.tokens.now self.now.grammar.now.rules.items
+            self.now.tables.now }
+        requires before { from < to }
+        requires inside { to ≤ length self.now.tokens.now }
+        ensures { IsTrue result → (t : Tree) → RulesOver self.now wanted from to t → ⊥ }
+    {
+        for (number, rule) in self.grammar.rules.iter().enumerate() {
+            if !fits(rule, wanted) {
+                continue;
+            }
+            if can_span(self.tokens, self.tables, rule, number, from, to) {
+                return false;
+            }
+        }
+        true
+    }
+
+    // Whether a glance tells that the range has no such terms: it has some tokens, no parenthesis
+    // before them, and no rule can span it.
+    fn is_out(&self, wanted: Wanted, from: usize, to: usize) -> bool
+        requires words { HaveWords self.now.grammar.now }
+        requires tables { HaveTables self.now.tokens.now self.now.grammar.now.rules.items
+            self.now.tables.now }
+        requires inside { to ≤ length self.now.tokens.now }
+        ensures { IsTrue result → (t : Tree) → TermsOver self.now wanted from to t → ⊥ }
+    {
+        if to <= from || to - from < 2 {
+            return false;
+        }
+        if self.tokens[from] == OPENING {
+            return false;
+        }
+        self.spans_none(wanted, from, to)
+    }
+
     // Whether it is known that the range has no such terms.
     fn is_known_none(&self, memo: &Memo, wanted: Wanted, from: usize, to: usize) -> bool
-        requires { IsReady self.now memo.now }
+        requires ready { IsReady self.now memo.now }
+        requires inside { to ≤ length self.now.tokens.now }
         ensures { IsTrue result → (t : Tree) → TermsOver self.now wanted from to t → ⊥ }
     {
         if !may_spell(self.starts, wanted.sort as usize, from, to) {
+            return true;
+        }
+        if self.is_out(wanted, from, to) {
             return true;
         }
         has_none(memo, wanted, from, to)
@@ -93,7 +136,8 @@ impl Reader<'_> {
     // Whether it is known that the symbols of a rule from a place on have no arguments: they are
     // one last hole, for which the range has no term.
     fn is_last_known_none(&self, memo: &Memo, part: Part<'_>, from: usize, to: usize) -> bool
-        requires { IsReady self.now memo.now }
+        requires ready { IsReady self.now memo.now }
+        requires inside { to ≤ length self.now.tokens.now }
         ensures { IsTrue result → (args : Trees) → ArgumentsOver self.now part.entry from to args
             → ⊥ }
     {
@@ -107,6 +151,7 @@ impl Reader<'_> {
     fn is_rest_known_none(&self, memo: &Memo, part: Part<'_>, from: usize, to: usize) -> bool
         requires ready { IsReady self.now memo.now }
         requires before { from < to }
+        requires inside { to ≤ length self.now.tokens.now }
         requires place { part.place < length part.rule.now.symbols.items }
         ensures { IsTrue result → (args : Trees) → ArgumentsOver self.now part.entry from to args
             → ⊥ }

@@ -9,8 +9,8 @@ use Rattle.circ_term.proofs.Within.{drop_read}
 use Rattle.circ_theory.specs.Theory.{Pair, pair_with, goal}
 use Rattle.circ_theory.specs.Rewriting.{named}
 use Rattle.circ_theory.specs.Pairs.{plain_pair}
-use Rattle.circ_theory.specs.declared.pairs.Pair.{Pair as PairOfTerms}
-use Rattle.circ_theory.specs.declared.parts.Goal.{Goal}
+use Rattle.circ_theory.specs.Pairs.{PairOfTerms}
+use Rattle.circ_theory.specs.Goal.{Goal}
 use Rattle.circ_proof.specs.Proof.{GoalNames, goal_at as named_goal, pair_at as named_pair}
 use Rattle.circ_proof.specs.PlainProof.{plain_names}
 use Rattle.circ_proof.specs.declared.proof.GoalNames.{GoalNames as TheNames}

@@ -1,6 +1,6 @@
 -- Goals whose sides are known to be one term, so that no walk over them has to find it.
 use Rattle.std.specs.Prelude.{◌≡◌, ℕ, Bool, true, List, [], ◌∷◌, ◌==◌, map}
-use Rattle.circ_theory.specs.declared.parts.Goal.{Goal}
+use Rattle.circ_theory.specs.Goal.{Goal}
 use Rattle.circ_proof.specs.Plain.{Same_why}
 use Rattle.circ_proof.specs.Rules.{ProofStep, Reduce}
 use Rattle.circ_proof.specs.Proof.{GoalNames}

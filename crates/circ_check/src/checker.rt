@@ -6,7 +6,7 @@ ghost use Rattle.std.specs.List.{AllByRecursion};
 ghost use Rattle.std.specs.Result.{OnErr};
 ghost use Rattle.circ_term.specs.Growing.{Grows};
 ghost use Rattle.circ_theory.specs.Theory.{Theory};
-ghost use Rattle.circ_theory.specs.declared.parts.Goal.{Goal as PlainGoal};
+ghost use Rattle.circ_theory.specs.Goal.{Goal as PlainGoal};
 ghost use Rattle.circ_proof.specs.Proof.{GoalNames as PlainNames, Proof, ProofFor};
 ghost use Rattle.circ_proof.specs.Parts.{Part as PlainPart, parts_of};
 ghost use Rattle.circ_proof.specs.Parts.{Head, Certificate, Goals, Step as StepPart};

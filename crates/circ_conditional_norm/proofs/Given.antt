@@ -11,7 +11,7 @@ use Rattle.circ_rewrite.specs.Due.{terms_by}
 use Rattle.circ_rewrite.proofs.Linked.{any_sorted, given_back}
 use Rattle.circ_rewrite.proofs.RuleTerms.{any_seen_in, has_variable-occurrences}
 use Rattle.circ_theory.specs.Rewriting.{by_terms}
-use Rattle.circ_theory.specs.declared.parts.Goal.{Goal}
+use Rattle.circ_theory.specs.Goal.{Goal}
 
 abbrev is_among : Variable → List Variable → Bool
 is_among v vs = list_any (is_variable v) vs

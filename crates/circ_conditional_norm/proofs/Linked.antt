@@ -28,7 +28,7 @@ use Rattle.circ_rewrite.proofs.MatchingFacts.{matching-sorts}
 use Rattle.circ_rewrite.proofs.Linked.{fit_given, matching_substitution, assumed_is}
 use Rattle.circ_theory.specs.Rewriting.{by_terms, RewritesBy}
 use Rattle.circ_theory.specs.WellFormed.{IsWellFormed}
-use Rattle.circ_theory.specs.declared.parts.Goal.{Goal}
+use Rattle.circ_theory.specs.Goal.{Goal}
 use Rattle.circ_proof.specs.Link.{Setting, Leads, RowLeads, ConditionsLead}
 use Rattle.circ_rewrite.specs.Links.{link_by, link_of, row_by, chains_by, IsNamed, IsRuleOf, AreLinks}
 use Rattle.circ_rewrite.specs.Norm.{Normalised, Normal_form, Budget_spent, Limit_passed}

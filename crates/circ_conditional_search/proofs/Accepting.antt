@@ -12,7 +12,7 @@ use Rattle.circ_theory.specs.Signature.{IsWellSorted}
 use Rattle.circ_theory.specs.Theory.{Theory, Pair, AreConditions}
 use Rattle.circ_theory.specs.WellFormed.{IsWellFormed}
 use Rattle.circ_theory.specs.Rewriting.{named}
-use Rattle.circ_theory.specs.declared.parts.Goal.{Goal}
+use Rattle.circ_theory.specs.Goal.{Goal}
 use Rattle.circ_proof.specs.Goals.{AreSortedGoals}
 use Rattle.circ_theory.specs.Fresh.{above_pairs}
 use Rattle.circ_theory.proofs.Lists.{all_by}

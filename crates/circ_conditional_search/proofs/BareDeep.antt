@@ -4,7 +4,7 @@ use Rattle.std.specs.List.{list_any}
 use Rattle.circ_term.specs.Tree.{Tree}
 use Rattle.circ_theory.specs.Theory.{Theory, Pair, HasNoConditions, CaseList, sides, pair_with}
 use Rattle.circ_theory.specs.Derivable.{is_case}
-use Rattle.circ_theory.specs.declared.parts.Goal.{Goal}
+use Rattle.circ_theory.specs.Goal.{Goal}
 use Rattle.circ_theory.proofs.Lists.{all_at}
 use Rattle.circ_theory.proofs.Rewriting.{contains_at}
 use Rattle.circ_special.specs.declared.place.Place.{Place}

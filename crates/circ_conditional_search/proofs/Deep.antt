@@ -13,7 +13,7 @@ use Rattle.circ_special.specs.Special.{IsSpecial}
 use Rattle.circ_proof.specs.Runs.{Runs}
 use Rattle.circ_plain_search.proofs.Deep.{or_false}
 use Rattle.circ_proof.specs.Plain.{LinkOf, LinksOf, ChainsOf, Equation_link, Hypothesis_link, Assumption_link, Content_link, no_link, more_links, no_chain, more_chains, ChainOf, WhyOf, WhysOf, Same_why, Split_why, no_why, more_whys}
-use Rattle.circ_theory.specs.declared.parts.Goal.{Goal}
+use Rattle.circ_theory.specs.Goal.{Goal}
 use Rattle.circ_proof.specs.Link.{setting, Leads, RowLeads, ConditionsLead}
 use Rattle.circ_theory.specs.Rewriting.{by_terms}
 use Rattle.circ_proof.specs.Justified.{ChainLeads, Justified, EachJustified}

@@ -14,7 +14,7 @@ use Rattle.circ_theory.proofs.Weakening.{in_rest, first_or_rest}
 use Rattle.circ_theory.proofs.Lists.{all_by}
 use Rattle.circ_plain_search.proofs.Terms.{Fine, fine_more}
 use Rattle.circ_plain_search.proofs.Derived.{derived_low}
-use Rattle.circ_theory.specs.declared.parts.Goal.{Goal}
+use Rattle.circ_theory.specs.Goal.{Goal}
 use Rattle.circ_theory.specs.Limits.{condition_limit}
 use Rattle.circ_proof.specs.Goals.{AreSortedGoals}
 use Rattle.circ_proof.specs.Rules.{derived_goal, derivatives_on, IsDerivable}

@@ -11,7 +11,7 @@ use Rattle.circ_special.specs.declared.place.Place.{Place}
 use Rattle.circ_rewrite.specs.Matching.{matching, matches}
 use Rattle.circ_rewrite.specs.Due.{terms_by, rule_variables}
 use Rattle.circ_plain_search.specs.Joining.{pair_matching, pair_matches, is_place, rule_number, HypothesisUse, put_in}
-use Rattle.circ_theory.specs.declared.parts.Goal.{Goal}
+use Rattle.circ_theory.specs.Goal.{Goal}
 use Rattle.circ_theory.specs.Theory.{sides}
 use Rattle.circ_rewrite.specs.declared.parts.Rule.{Rule}
 use Rattle.circ_rewrite.specs.Replacement.{Passes}

@@ -10,7 +10,7 @@ use Rattle.circ_rewrite.specs.Due.{terms_by}
 use Rattle.circ_rewrite.proofs.Linked.{any_sorted}
 use Rattle.circ_rewrite.proofs.RuleTerms.{any_seen_in, has_variable-occurrences}
 use Rattle.circ_plain_search.proofs.Terms.{either, or_right, same_number}
-use Rattle.circ_theory.specs.declared.parts.Goal.{Goal}
+use Rattle.circ_theory.specs.Goal.{Goal}
 
 abbrev variable : ℕ → ℕ → Variable
 variable n s = record { number = n; sort = s }

@@ -26,7 +26,7 @@ use Rattle.circ_plain_search.specs.Joining.{pair_matching, pair_matches, is_plac
 use Rattle.circ_plain_search.proofs.Terms.{Fine, FineTerms, args_fine, either}
 use Rattle.circ_plain_search.proofs.Special.{place_there, special_deeper, at_deeper}
 use Rattle.circ_plain_search.proofs.Uses.{row, row_arg, row_next, longer}
-use Rattle.circ_theory.specs.declared.parts.Goal.{Goal}
+use Rattle.circ_theory.specs.Goal.{Goal}
 use Rattle.circ_proof.specs.Link.{Setting}
 use Rattle.circ_rewrite.specs.Replacement.{Passes}
 use Rattle.circ_conditional_norm.specs.Work.{Work, Made, Out, Past, map_found}

@@ -30,7 +30,7 @@ use Rattle.circ_rewrite.specs.declared.parts.RuleName.{RuleName}
 use Rattle.circ_rewrite.proofs.RuleTerms.{bound_in_left, has_variable-occurrences}
 use Rattle.circ_plain_search.proofs.Terms.{Fine, replaced_low, instance_low, at_fine, canonical_low}
 use Rattle.circ_plain_search.proofs.PairTerms.{given_fine}
-use Rattle.circ_theory.specs.declared.parts.Goal.{Goal}
+use Rattle.circ_theory.specs.Goal.{Goal}
 use Rattle.circ_proof.specs.Link.{Setting, setting, AllOfLink, AllOfRow, AllOfChains, AllOfLinks}
 use Rattle.circ_rewrite.specs.Replacement.{Passes, no_pass, Replacement, Placed, Traced, traced, By_rule, By_content, trace_row}
 use Rattle.circ_conditional_norm.specs.Work.{Work, Made, Out, Past, map_found}

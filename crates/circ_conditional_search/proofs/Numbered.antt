@@ -5,7 +5,7 @@ use Rattle.std.specs.List.{AllByRecursion}
 use Rattle.std.proofs.lemmas.List.{length-map}
 use Rattle.circ_term.specs.Tree.{Tree, sort_of}
 use Rattle.circ_theory.specs.Rewriting.{named}
-use Rattle.circ_theory.specs.declared.parts.Goal.{Goal}
+use Rattle.circ_theory.specs.Goal.{Goal}
 use Rattle.circ_theory.specs.Theory.{goal, Theory, Pair, pair_with, IsVisible}
 use Rattle.circ_proof.specs.Plain.{LinkOf, Equation_link, Hypothesis_link, Assumption_link, Content_link, ChainOf, WhyOf, WhysOf, Same_why, Split_why, no_why, more_whys, map_link, map_chain, map_why, map_whys, LinksOf, ChainsOf, no_link, more_links, no_chain, more_chains, map_row, map_chains}
 use Rattle.circ_proof.specs.Link.{AllOfLink, AllOfLinks, AllOfRow, AllOfChains}

@@ -20,7 +20,7 @@ use Rattle.circ_plain_search.proofs.Terms.{Fine, FineTerms, instance_low, args_f
 use Rattle.circ_plain_search.proofs.PairTerms.{given_fine}
 use Rattle.circ_plain_search.proofs.Special.{place_there, special_deeper, at_deeper}
 use Rattle.circ_plain_search.proofs.Uses.{row, row_arg, row_next, longer}
-use Rattle.circ_theory.specs.declared.parts.Goal.{Goal}
+use Rattle.circ_theory.specs.Goal.{Goal}
 use Rattle.circ_proof.specs.Link.{Setting}
 use Rattle.circ_rewrite.specs.declared.parts.Rule.{Rule}
 use Rattle.circ_rewrite.specs.Replacement.{Passes}

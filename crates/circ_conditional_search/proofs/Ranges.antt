@@ -18,7 +18,7 @@ use Rattle.circ_proof.specs.Proof.{IsNumber, IsPath}
 use Rattle.circ_proof.proofs.FewPlaces.{slice_bound}
 use Rattle.circ_plain_search.proofs.Terms.{path_fits}
 use Rattle.circ_proof.specs.Plain.{LinkOf, LinksOf, ChainsOf, Equation_link, Hypothesis_link, Assumption_link, Content_link, no_link, more_links, no_chain, more_chains, ChainOf, WhyOf, WhysOf, Same_why, Split_why, no_why, more_whys}
-use Rattle.circ_theory.specs.declared.parts.Goal.{Goal}
+use Rattle.circ_theory.specs.Goal.{Goal}
 use Rattle.circ_proof.specs.Goals.{AreSortedGoals}
 use Rattle.circ_theory.specs.WellFormed.{IsWellFormed}
 use Rattle.circ_proof.specs.Link.{Setting, setting, Leads, RowLeads, ConditionsLead, AllOfLink, AllOfRow, AllOfChains, AllOfLinks}

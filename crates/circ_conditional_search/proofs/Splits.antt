@@ -16,7 +16,7 @@ use Rattle.circ_rewrite.specs.Links.{link_of, IsRuleOf}
 use Rattle.circ_conditional_norm.proofs.Falling.{norm_falls}
 use Rattle.circ_conditional_norm.proofs.Working.{NormalLeavesAtMost}
 use Rattle.circ_theory.specs.Observing.{cases_of, case_list}
-use Rattle.circ_theory.specs.declared.parts.Goal.{Goal}
+use Rattle.circ_theory.specs.Goal.{Goal}
 use Rattle.circ_theory.proofs.Casing.{contains_first, contains_next}
 use Rattle.circ_theory.proofs.Lists.{all_push}
 use Rattle.circ_special.specs.declared.place.Place.{Place}

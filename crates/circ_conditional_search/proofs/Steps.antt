@@ -10,7 +10,7 @@ use Rattle.circ_theory.specs.Observing.{case_list}
 use Rattle.circ_theory.specs.Fresh.{derivatives_of, fresh_in}
 use Rattle.circ_special.specs.declared.place.Place.{Place}
 use Rattle.circ_plain_search.proofs.Led.{all_append}
-use Rattle.circ_theory.specs.declared.parts.Goal.{Goal}
+use Rattle.circ_theory.specs.Goal.{Goal}
 use Rattle.circ_proof.specs.Goals.{with_cond, AreSortedGoals}
 use Rattle.circ_theory.specs.Limits.{condition_limit}
 use Rattle.circ_theory.specs.WellFormed.{IsWellFormed}

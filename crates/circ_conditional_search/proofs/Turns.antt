@@ -9,7 +9,7 @@ use Rattle.circ_term.specs.Tree.{Tree, sort_of}
 use Rattle.circ_theory.specs.Theory.{Theory, IsHidden, Pair, goal, sides}
 use Rattle.circ_theory.specs.WellFormed.{IsWellFormed}
 use Rattle.circ_theory.specs.Observing.{is_hidden, case_list, cases_of}
-use Rattle.circ_theory.specs.declared.parts.Goal.{Goal}
+use Rattle.circ_theory.specs.Goal.{Goal}
 use Rattle.circ_proof.specs.Goals.{AreSortedGoals, with_cond}
 use Rattle.circ_theory.specs.Limits.{condition_limit}
 use Rattle.circ_theory.proofs.Casing.{hidden_tells, contains_first, contains_next}

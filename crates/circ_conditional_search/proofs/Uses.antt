@@ -23,7 +23,7 @@ use Rattle.circ_plain_search.proofs.Terms.{Fine, FineTerms, replaced_low}
 use Rattle.circ_plain_search.proofs.Special.{special_replaced}
 use Rattle.circ_plain_search.proofs.Uses.{Through, through, same_Ok, map_append, row, row_arg, row_next}
 use Rattle.circ_proof.specs.Plain.{LinkOf}
-use Rattle.circ_theory.specs.declared.parts.Goal.{Goal}
+use Rattle.circ_theory.specs.Goal.{Goal}
 use Rattle.circ_proof.specs.Goals.{AreSortedGoals}
 use Rattle.circ_proof.specs.Link.{Setting, ConditionsLead, AllOfChains}
 use Rattle.circ_conditional_search.specs.Joining.{put_limit}

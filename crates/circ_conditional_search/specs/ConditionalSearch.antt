@@ -5,7 +5,7 @@ use Rattle.circ_term.specs.Limits.{IsWithinLimits}
 use Rattle.circ_theory.specs.Fresh.{fresh_in}
 use Rattle.circ_theory.specs.Limits.{condition_limit}
 use Rattle.circ_theory.specs.Theory.{Theory, Pair, IsWellSortedGoal}
-use Rattle.circ_theory.specs.declared.parts.Goal.{Goal}
+use Rattle.circ_theory.specs.Goal.{Goal}
 use Rattle.circ_special.specs.declared.place.Place.{Place}
 use Rattle.circ_rewrite.specs.Links.{link_of}
 use Rattle.circ_rewrite.specs.Replacement.{Traced}

@@ -3,8 +3,8 @@ use Rattle.std.specs.Prelude.{ℕ, ◌+◌, zero, suc, Bool, List, [], ◌∷◌
 use Rattle.circ_term.specs.Tree.{Tree}
 use Rattle.circ_theory.specs.Theory.{Theory, pair_with, Pair}
 use Rattle.circ_theory.specs.Examples.{plain_op}
-use Rattle.circ_theory.specs.declared.parts.Equation.{Equation}
-use Rattle.circ_theory.specs.declared.parts.Goal.{Goal}
+use Rattle.circ_theory.specs.Goal.{Equation}
+use Rattle.circ_theory.specs.Goal.{Goal}
 use Rattle.circ_proof.specs.Proof.{Block, steps_in}
 use Rattle.circ_proof.specs.Rules.{ProofStep, Derive}
 use Rattle.circ_plain_search.specs.Examples.{bits, equation, on_two, zero_bit, one_bit, hd, tl, x, s}

@@ -6,7 +6,7 @@ use Rattle.circ_term.specs.Limits.{Limit, first_limit, or_else}
 use Rattle.circ_term.specs.Order.{is_same}
 use Rattle.circ_term.specs.Substitution.{instance}
 use Rattle.circ_theory.specs.Theory.{sides}
-use Rattle.circ_theory.specs.declared.parts.Goal.{Goal}
+use Rattle.circ_theory.specs.Goal.{Goal}
 use Rattle.circ_theory.specs.declared.way.Way.{Way}
 use Rattle.circ_theory.specs.declared.way.Way.TheVariants.{Forth, Back}
 use Rattle.circ_special.specs.declared.place.Place.{Place}

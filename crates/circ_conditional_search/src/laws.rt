@@ -4,7 +4,7 @@
 ghost use Rattle.std.specs.Prelude.{◌≡◌, ◌↔◌, ◌<◌, ◌+◌, ◌-◌, List, ◌∷◌, Ok, false};
 ghost use Rattle.circ_theory.specs.Theory.{Theory, goal};
 ghost use Rattle.circ_theory.specs.WellFormed.{IsWellFormed};
-ghost use Rattle.circ_theory.specs.declared.parts.Goal.{Goal};
+ghost use Rattle.circ_theory.specs.Goal.{Goal};
 ghost use Rattle.circ_special.specs.declared.place.Place.{Place};
 ghost use Rattle.circ_proof.specs.Proof.{Proof, step_limit};
 ghost use Rattle.circ_plain_search.specs.Numbering.{Found, Proved};

@@ -5,7 +5,7 @@ use Rattle.circ_term.specs.Limits.{first_limit, or_else}
 use Rattle.circ_term.specs.Order.{is_same}
 use Rattle.circ_term.specs.Tree.{Tree, Trees, Var, App, none, more}
 use Rattle.circ_theory.specs.Signature.{Signature, Operator}
-use Rattle.circ_theory.specs.declared.parts.Goal.{Goal}
+use Rattle.circ_theory.specs.Goal.{Goal}
 use Rattle.circ_aci.specs.Canonical.{join}
 use Rattle.circ_aci.specs.Content.{content}
 use Rattle.circ_special.specs.declared.place.Place.{Place}

@@ -4,7 +4,7 @@ use Rattle.circ_term.specs.Tree.{Tree}
 use Rattle.circ_theory.specs.Signature.{Signature}
 use Rattle.circ_theory.specs.Theory.{goal}
 use Rattle.circ_theory.specs.Examples.{plain_op}
-use Rattle.circ_theory.specs.declared.parts.Goal.{Goal}
+use Rattle.circ_theory.specs.Goal.{Goal}
 use Rattle.circ_theory.specs.declared.way.Way.TheVariants.{Forth}
 use Rattle.circ_special.specs.Special.{place}
 use Rattle.circ_special.specs.declared.place.Place.{Place}

@@ -38,7 +38,7 @@ use Rattle.circ_tasks.specs.Tasks.{background_in, followed_of, opening_of, worke
 use Rattle.circ_expand.specs.declared.fault.ExpandFault.TheVariants as fault
 use Rattle.circ_expansion.specs.Answers.{LeadsOnGoal}
 use Rattle.circ_expansion.specs.Goals.{FitGoal, all_goals}
-use Rattle.circ_theory.specs.declared.parts.Goal.{Goal}
+use Rattle.circ_theory.specs.Goal.{Goal}
 use Rattle.std.proofs.lemmas.Option.{same_Some}
 use Rattle.circ_expansion.proofs.Expanding.{expansion_goes, given_leads, never_stops}
 use Rattle.circ_expansion.proofs.Working.{worked_right}

@@ -1,7 +1,7 @@
 //! A derivation without hypotheses is written out from an accepted proof.
 ghost use Rattle.std.specs.Prelude.{◌≡◌, IfOk, Some, Err, map};
 ghost use Rattle.std.specs.List.{slice_get};
-ghost use Rattle.circ_theory.specs.declared.parts.Goal.{Goal};
+ghost use Rattle.circ_theory.specs.Goal.{Goal};
 ghost use Rattle.circ_proof.specs.Proof.{ProofFor, IsPlain};
 ghost use Rattle.circ_proof.specs.PlainProof.{plain_proof};
 ghost use Rattle.circ_proof.specs.Accepted.{Accepted};

@@ -9,7 +9,7 @@ use Rattle.circ_theory.specs.Signature.{IsWellSorted}
 use Rattle.circ_theory.specs.Theory.{Derivative, sides, IsHidden}
 use Rattle.circ_theory.specs.Fresh.{fresh_in}
 use Rattle.circ_theory.specs.Experiment.{Fits, derived, on}
-use Rattle.circ_theory.specs.declared.parts.Goal.{Goal}
+use Rattle.circ_theory.specs.Goal.{Goal}
 use Rattle.circ_theory.proofs.Derived.{derived_by}
 use Rattle.circ_theory.proofs.Instances.{sort_of-instance_by}
 use Rattle.circ_theory.proofs.Sorting.{at_sorted}

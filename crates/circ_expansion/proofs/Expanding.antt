@@ -11,7 +11,7 @@ use Rattle.circ_theory.specs.Signature.{Operator, IsWellSorted}
 use Rattle.circ_theory.specs.Theory.{Theory, Derivative}
 use Rattle.circ_theory.specs.WellFormed.{IsWellFormed, IsDerivative}
 use Rattle.circ_theory.specs.Experiment.{Entry, Fits, on, derived}
-use Rattle.circ_theory.specs.declared.parts.Goal.{Goal}
+use Rattle.circ_theory.specs.Goal.{Goal}
 use Rattle.circ_theory.proofs.Derived.{derived_by}
 use Rattle.circ_theory.proofs.Weakening.{first_or_rest}
 use Rattle.circ_special.specs.declared.place.Place.{Place}

@@ -11,7 +11,7 @@ use Rattle.circ_term.proofs.Instances.{instance-instance}
 use Rattle.circ_term.proofs.Paths.{nowhere, at-append, at_instance, replaced_below}
 use Rattle.circ_theory.specs.Signature.{Signature, IsSort, IsWellSorted, IsSubstitution}
 use Rattle.circ_theory.specs.Theory.{Theory, Pair, goal, sides, Derivative}
-use Rattle.circ_theory.specs.declared.parts.Goal.{Goal}
+use Rattle.circ_theory.specs.Goal.{Goal}
 use Rattle.circ_theory.specs.Variables.{Variable, is_variable, seen_in, seen_in_pairs, variables_of, sorted, occurrences, FitVariables, given}
 use Rattle.circ_theory.specs.WellFormed.{IsDerivative}
 use Rattle.circ_theory.specs.Observing.{holes_in, all_holes_in}

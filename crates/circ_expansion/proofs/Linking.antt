@@ -13,7 +13,7 @@ use Rattle.circ_theory.specs.Variables.{variables_of, sorted}
 use Rattle.circ_theory.specs.Experiment.{Fits, on}
 use Rattle.circ_theory.specs.Observing.{is_hidden}
 use Rattle.circ_theory.specs.Rewriting.{from_side, to_side, by_terms, Replaces, RewritesBy}
-use Rattle.circ_theory.specs.declared.parts.Goal.{Goal}
+use Rattle.circ_theory.specs.Goal.{Goal}
 use Rattle.circ_theory.specs.declared.way.Way.{Way}
 use Rattle.circ_theory.specs.declared.way.Way.TheVariants.{Forth, Back}
 use Rattle.circ_theory.proofs.Casing.{hidden_tells}

@@ -10,7 +10,7 @@ use Rattle.circ_theory.specs.Theory.{Theory, Derivative, Pair, CaseList, sides, 
 use Rattle.circ_theory.specs.Theory.{IsWellSortedGoal}
 use Rattle.circ_theory.specs.WellFormed.{IsWellFormed}
 use Rattle.circ_theory.specs.Experiment.{Fits, on}
-use Rattle.circ_theory.specs.declared.parts.Goal.{Goal}
+use Rattle.circ_theory.specs.Goal.{Goal}
 use Rattle.circ_theory.proofs.Sorting.{replaced_sorted}
 use Rattle.circ_special.specs.declared.place.Place.{Place}
 use Rattle.circ_special.specs.Special.{place, IsPlace, IsSpecial}

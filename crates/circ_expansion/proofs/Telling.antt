@@ -8,7 +8,7 @@ use Rattle.circ_theory.specs.Rewriting.{by_terms}
 use Rattle.circ_theory.specs.Fresh.{derivatives_of, fresh_in}
 use Rattle.circ_theory.specs.WellFormed.{IsWellFormed}
 use Rattle.circ_theory.specs.Derivable.{is_case}
-use Rattle.circ_theory.specs.declared.parts.Goal.{Goal}
+use Rattle.circ_theory.specs.Goal.{Goal}
 use Rattle.circ_theory.proofs.Lists.{slice_get-front}
 use Rattle.circ_special.specs.declared.place.Place.{Place}
 use Rattle.circ_proof.specs.Plain.{LinkOf, chains_in, no_chain, Equation_link, Hypothesis_link, Assumption_link, Content_link, ChainOf, WhyOf, WhysOf}

@@ -15,7 +15,7 @@ use Rattle.circ_theory.specs.Fresh.{fresh_in}
 use Rattle.circ_theory.specs.Observing.{is_hidden}
 use Rattle.circ_theory.specs.Rewriting.{by_terms}
 use Rattle.circ_theory.specs.Variables.{variables_of, sorted}
-use Rattle.circ_theory.specs.declared.parts.Goal.{Goal}
+use Rattle.circ_theory.specs.Goal.{Goal}
 use Rattle.circ_theory.specs.declared.way.Way.{Way}
 use Rattle.circ_theory.specs.declared.way.Way.TheVariants.{Forth, Back}
 use Rattle.circ_match.specs.Matcher.{has_variable}

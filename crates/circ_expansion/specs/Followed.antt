@@ -6,7 +6,7 @@ use Rattle.circ_term.specs.Tree.{Tree, Var, replaced}
 use Rattle.circ_term.specs.Substitution.{instance}
 use Rattle.circ_theory.specs.Theory.{Theory, Pair, pair_with, goal, goal_of, sides}
 use Rattle.circ_theory.specs.Rewriting.{to_side, by_terms}
-use Rattle.circ_theory.specs.declared.parts.Goal.{Goal}
+use Rattle.circ_theory.specs.Goal.{Goal}
 use Rattle.circ_special.specs.declared.place.Place.{Place}
 use Rattle.circ_proof.specs.Plain.{LinkOf, Equation_link, Hypothesis_link, Assumption_link, Content_link, ChainOf, WhyOf}
 use Rattle.circ_proof.specs.Link.{Setting, setting}

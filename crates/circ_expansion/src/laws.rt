@@ -4,7 +4,7 @@ ghost use Rattle.std.specs.List.{slice_get};
 ghost use Rattle.circ_term.specs.Tree.{sort_of};
 ghost use Rattle.circ_theory.specs.Theory.{Theory};
 ghost use Rattle.circ_theory.specs.WellFormed.{IsWellFormed};
-ghost use Rattle.circ_theory.specs.declared.parts.Goal.{Goal};
+ghost use Rattle.circ_theory.specs.Goal.{Goal};
 ghost use Rattle.circ_proof.specs.Proof.{Proof, ProofFor, IsPlain};
 ghost use Rattle.circ_proof.specs.Accepted.{Accepted};
 ghost use Rattle.circ_entry.specs.Entries.{Written, FitsWritten};

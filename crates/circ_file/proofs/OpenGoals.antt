@@ -7,7 +7,7 @@ use Rattle.circ_term.specs.Tree.{Tree}
 use Rattle.circ_theory.specs.Pair.{Pair}
 use Rattle.circ_theory.specs.Theory.{goal}
 use Rattle.circ_theory.specs.Rewriting.{named}
-use Rattle.circ_theory.specs.declared.parts.Goal.{Goal}
+use Rattle.circ_theory.specs.Goal.{Goal}
 use Rattle.circ_proof.specs.PlainProof.{plain_names}
 use Rattle.circ_proof.specs.Proof.{GoalNames, pair_at, goal_at}
 use Rattle.circ_proof.specs.declared.proof.GoalNames.{GoalNames as TheNames}

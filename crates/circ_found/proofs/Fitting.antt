@@ -4,7 +4,7 @@ use Rattle.std.specs.Prelude.{IfOk}
 use Rattle.std.specs.List.{AllByRecursion}
 use Rattle.circ_term.specs.Tree.{sort_of}
 use Rattle.circ_theory.specs.Theory.{Theory}
-use Rattle.circ_theory.specs.declared.parts.Goal.{Goal}
+use Rattle.circ_theory.specs.Goal.{Goal}
 use Rattle.circ_entry.specs.Entries.{Written, FitsWritten}
 use Rattle.circ_entry.specs.Plain.{plain_entry, plain_entries}
 use Rattle.circ_entry.specs.declared.entries.Entry.{Entry}

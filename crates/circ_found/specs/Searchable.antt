@@ -3,7 +3,7 @@ use Rattle.std.specs.Prelude.{◌≢◌, List, []}
 use Rattle.std.specs.List.{AllByRecursion}
 use Rattle.circ_term.specs.Limits.{IsWithinLimits}
 use Rattle.circ_theory.specs.Theory.{Theory}
-use Rattle.circ_theory.specs.declared.parts.Goal.{Goal}
+use Rattle.circ_theory.specs.Goal.{Goal}
 use Rattle.circ_plain_search.specs.PlainSearch.{IsSearchable}
 use Rattle.circ_conditional_search.specs.ConditionalSearch.{IsPairWithin}
 

@@ -12,7 +12,7 @@ use Rattle.circ_term.specs.Subst.{Bound, bound_cmp, found, substitution_of}
 use Rattle.circ_term.proofs.Order.{same_here}
 use Rattle.circ_theory.specs.Theory.{Pair, sides}
 use Rattle.circ_theory.specs.Variables.{Variable, is_variable, variables_of, seen_in, seen_in_pairs, occurrences}
-use Rattle.circ_theory.specs.declared.parts.Goal.{Goal}
+use Rattle.circ_theory.specs.Goal.{Goal}
 use Rattle.circ_theory.proofs.BoundTerms.{bound_terms, variables_apart}
 use Rattle.circ_match.specs.Matcher.{IsMatcher, Makes, has_variable}
 use Rattle.circ_match.proofs.Variables.{instance-variable}

@@ -7,7 +7,7 @@ use Rattle.circ_term.specs.Tree.{Tree, Trees, Var, App, trees_of}
 use Rattle.circ_term.specs.Order.{is_same}
 use Rattle.circ_term.proofs.Order.{same_itself}
 use Rattle.circ_term.proofs.Within.{drop_read}
-use Rattle.circ_theory.specs.declared.parts.Goal.{Goal}
+use Rattle.circ_theory.specs.Goal.{Goal}
 use Rattle.circ_special.specs.declared.place.Place.{Place}
 use Rattle.circ_aci.proofs.Finding.{told_same}
 use Rattle.circ_rewrite.specs.declared.fault.RewriteFault.{RewriteFault}

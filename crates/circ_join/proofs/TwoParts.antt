@@ -5,7 +5,7 @@ use Rattle.std.proofs.lemmas.List.{length-map, length-take}
 use Rattle.std.proofs.lemmas.Option.{slice_get_within}
 use Rattle.circ_term.specs.Tree.{Tree}
 use Rattle.circ_term.specs.Subst.{Bound}
-use Rattle.circ_theory.specs.declared.parts.Goal.{Goal}
+use Rattle.circ_theory.specs.Goal.{Goal}
 use Rattle.circ_index.specs.Finding.{PairMatches, NoneMatches, FindsLeast, FindsFirstPair, both_ways}
 use Rattle.circ_join.specs.Hypotheses.{both_sides}
 

@@ -4,7 +4,7 @@ use Rattle.std.specs.Option.{option_or}
 use Rattle.circ_term.specs.Tree.{Var}
 use Rattle.circ_term.specs.Subst.{Bound, found}
 use Rattle.circ_theory.specs.Theory.{Pair}
-use Rattle.circ_theory.specs.declared.parts.Goal.{Goal}
+use Rattle.circ_theory.specs.Goal.{Goal}
 use Rattle.circ_match.specs.Matcher.{has_variable}
 use Rattle.circ_rewrite.specs.declared.parts.Rule.{Rule}
 

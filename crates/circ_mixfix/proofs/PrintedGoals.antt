@@ -5,7 +5,7 @@ use Rattle.std.proofs.lemmas.List.{append_cancel_left}
 use Rattle.circ_lexer.specs.TokenList.{AreTokens, IsToken, run_token}
 use Rattle.circ_lexer.proofs.Texts.{tokens_once}
 use Rattle.circ_term.specs.Tree.{Tree}
-use Rattle.circ_theory.specs.declared.parts.Goal.{Goal}
+use Rattle.circ_theory.specs.Goal.{Goal}
 use Rattle.circ_theory.specs.Signature.{Signature, IsWellSorted}
 use Rattle.circ_theory.specs.Theory.{Pair, pair_with, sides, goal}
 use Rattle.circ_mixfix.specs.Printing.{further, text_of_pair, text_under, text_of_goal}

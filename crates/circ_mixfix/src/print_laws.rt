@@ -6,7 +6,7 @@ ghost use Rattle.circ_lexer.specs.TokenList.{AreTokens};
 ghost use Rattle.circ_term.specs.Tree.{Tree, sort_of};
 ghost use Rattle.circ_theory.specs.Signature.{Signature, IsWellSorted};
 ghost use Rattle.circ_theory.specs.Theory.{Declared, Pair, pair_with, sides};
-ghost use Rattle.circ_theory.specs.declared.parts.Goal.{Goal};
+ghost use Rattle.circ_theory.specs.Goal.{Goal};
 ghost use Rattle.circ_mixfix.specs.Named.{Named};
 ghost use Rattle.circ_mixfix.specs.OwnWords.{IsReadBack, AreNoWords, IsNumbered};
 ghost use Rattle.circ_mixfix.specs.OwnWords.{IsNumberedPair};

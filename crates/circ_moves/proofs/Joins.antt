@@ -6,7 +6,7 @@ use Rattle.circ_term.specs.Tree.{Tree, Trees, Var, App, trees_of}
 use Rattle.circ_term.specs.Order.{is_same}
 use Rattle.circ_term.proofs.Within.{drop_read}
 use Rattle.circ_theory.specs.Signature.{Signature}
-use Rattle.circ_theory.specs.declared.parts.Goal.{Goal}
+use Rattle.circ_theory.specs.Goal.{Goal}
 use Rattle.circ_special.specs.declared.place.Place.{Place}
 use Rattle.circ_rewrite.specs.declared.fault.RewriteFault.{RewriteFault}
 use Rattle.circ_rewrite.specs.declared.fault.RewriteFault.TheVariants.{Spent, TooBig, TooDeep, Memory}

@@ -4,7 +4,7 @@ use Rattle.circ_term.specs.Tree.{Tree, Var, App}
 use Rattle.circ_term.specs.Limits.{Names, IsWithinLimits, first_limit, or_else}
 use Rattle.circ_term.specs.declared.fault.TermFault.{TermFault}
 use Rattle.circ_theory.specs.Signature.{Signature}
-use Rattle.circ_theory.specs.declared.parts.Goal.{Goal}
+use Rattle.circ_theory.specs.Goal.{Goal}
 use Rattle.circ_special.specs.declared.place.Place.{Place}
 use Rattle.circ_aci.specs.Canonical.{join}
 use Rattle.circ_conditional_norm.specs.Tries.{Normaliser}

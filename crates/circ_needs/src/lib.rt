@@ -5,7 +5,6 @@
 //! observe an occurrence.
 #![tactic(auto)]
 
-mod fitting;
 mod needs;
 mod observers;
 mod walking;

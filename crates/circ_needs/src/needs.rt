@@ -4,14 +4,13 @@ ghost use Rattle.std.specs.List.{Contains};
 ghost use Rattle.circ_special.specs.Guarded.{Guarded};
 ghost use Rattle.circ_special.specs.Special.{place};
 ghost use Rattle.circ_special.specs.declared.place.Place.{Place as ThePlace};
-ghost use Rattle.circ_needs.specs.Needs.{HasAll};
+ghost use Rattle.circ_needs.specs.Needs.{HasAll, NoneLost};
 ghost use Rattle.circ_needs.specs.Places.{places_of};
 ghost use Rattle.circ_needs.specs.Owing.{Passes};
 
-use crate::fitting::is_variable;
 use crate::observers::Observers;
 use crate::walking::{Asked, room};
-use circ_special::Gamma;
+use circ_special::{Gamma, is_variable};
 use circ_term::Term;
 use indexmap::IndexSet;
 use std::alloc::{AllocError, Global};
@@ -64,8 +63,9 @@ impl Needs {
         id: u32,
         sort: u32,
     ) -> Result<(), AllocError>
-        ensures { OnOk result ((G : List ThePlace) → HasAll G self.new ↔
+        ensures added { OnOk result ((G : List ThePlace) → HasAll G self.new ↔
             (HasAll G self.old × Guarded observers.now G term.now id sort)) }
+        ensures kept { NoneLost self.old self.new }
     {
         term.known();
         if is_variable(term, id, sort) {
@@ -98,7 +98,8 @@ impl Needs {
         steps: usize,
         len: usize,
     ) -> Result<usize, AllocError>
-        ensures { IfOk result (Passes (place op arg) steps len self.old self.new) }
+        ensures passes { IfOk result (Passes (place op arg) steps len self.old self.new) }
+        ensures kept { NoneLost self.old self.new }
     {
         if steps <= len {
             return Ok(steps);
@@ -108,8 +109,9 @@ impl Needs {
     }
 
     fn put(&mut self, op: u32, arg: u16) -> Result<(), AllocError>
-        ensures { OnOk result ((G : List ThePlace) → HasAll G self.new ↔
+        ensures put { OnOk result ((G : List ThePlace) → HasAll G self.new ↔
             (HasAll G self.old × Contains G (place op arg))) }
+        ensures kept { NoneLost self.old self.new }
     {
         self.needs.insert(Need { op, arg })?;
         Ok(())

@@ -6,10 +6,11 @@ ghost use Rattle.circ_term.specs.Tree.{Var, App, at, depth_of, depths_of, trees_
 ghost use Rattle.circ_term.specs.declared.TheConstants.{MOST_DEPTH};
 ghost use Rattle.circ_needs.specs.Owing.{IsParent, Owes, OwesAll, OwesAt, OwesBy, OwesThere};
 ghost use Rattle.circ_needs.specs.Owing.{FitsFront, AreMet};
+ghost use Rattle.circ_needs.specs.Needs.{NoneLost};
 
-use crate::fitting::{fits, has_hole, is_variable};
 use crate::needs::Needs;
 use crate::observers::{Look, Observers};
+use circ_special::{fits, has_hole, is_variable};
 use circ_term::{Kind, Term};
 use std::alloc::AllocError;
 
@@ -48,6 +49,7 @@ impl Asked<'_> {
         requires other { here.now ≡ Var self.now.id self.now.sort → ⊥ }
         ensures exact { IfOk result
             (Owes self.now (take len path.old) needs.old needs.new here.now) }
+        ensures kept { NoneLost needs.old needs.new }
         ensures same { take len path.new ≡ take len path.old }
         ensures long { length path.new ≡ length path.old }
     {
@@ -76,6 +78,7 @@ impl Asked<'_> {
         requires here { (s : ℕ) × (here.now ≡ App op s (trees_of args.now)) }
         ensures exact { IfOk result
             (OwesAll self.now (take len path.old) needs.old needs.new args.now) }
+        ensures kept { NoneLost needs.old needs.new }
         ensures same { take len path.new ≡ take len path.old }
         ensures long { length path.new ≡ length path.old }
     {
@@ -105,6 +108,7 @@ impl Asked<'_> {
         requires parent { IsParent self.now (take (len + 1) path.old) here.now op }
         ensures exact { IfOk result
             (Owes self.now (take (len + 1) path.old) needs.old needs.new arg.now) }
+        ensures kept { NoneLost needs.old needs.new }
         ensures same { take (len + 1) path.new ≡ take (len + 1) path.old }
         ensures long { length path.new ≡ length path.old }
     {

@@ -9,7 +9,7 @@ use Rattle.circ_term.specs.Subst.{Bound, bound_cmp, found, substitution_of}
 use Rattle.circ_term.proofs.Order.{same_here, same_itself}
 use Rattle.circ_theory.specs.Theory.{sides}
 use Rattle.circ_theory.specs.Rewriting.{from_side}
-use Rattle.circ_theory.specs.declared.parts.Goal.{Goal}
+use Rattle.circ_theory.specs.Goal.{Goal}
 use Rattle.circ_theory.specs.declared.way.Way.{Way}
 use Rattle.circ_theory.specs.declared.way.Way.TheVariants.{Forth, Back}
 use Rattle.circ_match.specs.Matcher.{has_variable}

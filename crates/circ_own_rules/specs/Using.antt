@@ -4,7 +4,7 @@ use Rattle.circ_term.specs.Tree.{Tree}
 use Rattle.circ_term.specs.Subst.{Bound, found, substitution_of}
 use Rattle.circ_term.specs.Substitution.{Substitution, instance}
 use Rattle.circ_theory.specs.Theory.{sides}
-use Rattle.circ_theory.specs.declared.parts.Goal.{Goal}
+use Rattle.circ_theory.specs.Goal.{Goal}
 use Rattle.circ_match.specs.Matcher.{has_variable}
 use Rattle.circ_proof.specs.Plain.{plain_chains}
 use Rattle.circ_rewrite.specs.Due.{terms_by}

@@ -6,7 +6,7 @@ use Rattle.circ_theory.specs.Theory.{Theory, HasNoConditions, goal}
 use Rattle.circ_theory.specs.WellFormed.{IsWellFormed}
 use Rattle.circ_theory.specs.Observing.{case_list}
 use Rattle.circ_theory.specs.Fresh.{above_pairs}
-use Rattle.circ_theory.specs.declared.parts.Goal.{Goal}
+use Rattle.circ_theory.specs.Goal.{Goal}
 use Rattle.circ_special.specs.declared.place.Place.{Place}
 use Rattle.circ_proof.specs.Rules.{State, state, ProofStep, Simplify, Reduce, Derive, Cases, Done, StepOn, StepsOf, derivatives_on, cases_on}
 use Rattle.circ_proof.specs.Proof.{step_limit}

@@ -6,7 +6,7 @@ use Rattle.circ_term.specs.Tree.{Tree, sort_of}
 use Rattle.circ_theory.specs.Theory.{Theory, Pair, CaseList, HasNoConditions, sides}
 use Rattle.circ_theory.specs.Derivable.{is_case}
 use Rattle.circ_theory.specs.Observing.{is_hidden}
-use Rattle.circ_theory.specs.declared.parts.Goal.{Goal}
+use Rattle.circ_theory.specs.Goal.{Goal}
 use Rattle.circ_theory.proofs.Casing.{hidden_tells}
 use Rattle.circ_theory.proofs.Lists.{all_at}
 use Rattle.circ_theory.proofs.Rewriting.{contains_at}

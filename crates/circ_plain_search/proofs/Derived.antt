@@ -14,7 +14,7 @@ use Rattle.circ_theory.specs.Variables.{Variable, occurrences, all_occurrences, 
 use Rattle.circ_theory.specs.Experiment.{plug, derived}
 use Rattle.circ_theory.specs.Observing.{is_parameter, is_hole}
 use Rattle.circ_theory.specs.Fresh.{above, all_above, above_pairs, numbered_from, derivatives_of}
-use Rattle.circ_theory.specs.declared.parts.Goal.{Goal}
+use Rattle.circ_theory.specs.Goal.{Goal}
 use Rattle.circ_theory.proofs.Casing.{contains_first}
 use Rattle.circ_theory.proofs.Lists.{all_by}
 use Rattle.circ_theory.proofs.Weakening.{in_rest}

@@ -14,7 +14,7 @@ use Rattle.circ_theory.specs.Signature.{IsWellSorted}
 use Rattle.circ_theory.specs.Theory.{Theory, Pair, IsWellSortedPair}
 use Rattle.circ_theory.specs.WellFormed.{IsWellFormed}
 use Rattle.circ_theory.specs.Fresh.{above}
-use Rattle.circ_theory.specs.declared.parts.Goal.{Goal}
+use Rattle.circ_theory.specs.Goal.{Goal}
 use Rattle.circ_theory.proofs.Lists.{all_at, all_by}
 use Rattle.circ_special.specs.declared.place.Place.{Place}
 use Rattle.circ_aci.specs.Canonical.{canonical_under}

@@ -4,7 +4,7 @@ use Rattle.std.specs.List.{list_any, AllByRecursion}
 use Rattle.circ_term.specs.Tree.{Tree, at}
 use Rattle.circ_term.specs.Substitution.{Substitution, instance}
 use Rattle.circ_theory.specs.Theory.{Theory}
-use Rattle.circ_theory.specs.declared.parts.Goal.{Goal}
+use Rattle.circ_theory.specs.Goal.{Goal}
 use Rattle.circ_theory.specs.Variables.{Variable, is_variable, variables_of, seen_in, seen_in_pairs, occurrences, given}
 use Rattle.circ_match.specs.Matcher.{has_variable}
 use Rattle.circ_match.proofs.Variables.{instance-variable}

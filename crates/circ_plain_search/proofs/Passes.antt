@@ -9,7 +9,7 @@ use Rattle.circ_term.specs.Substitution.{Substitution, instance}
 use Rattle.circ_term.proofs.Order.{same_here}
 use Rattle.circ_theory.specs.Theory.{Theory, Pair, sides}
 use Rattle.circ_theory.specs.Fresh.{above}
-use Rattle.circ_theory.specs.declared.parts.Goal.{Goal}
+use Rattle.circ_theory.specs.Goal.{Goal}
 use Rattle.circ_theory.specs.declared.way.Way.TheVariants.{Forth}
 use Rattle.circ_theory.proofs.Lists.{all_at}
 use Rattle.circ_special.specs.declared.place.Place.{Place}

@@ -8,7 +8,7 @@ use Rattle.circ_theory.specs.Signature.{IsWellSorted, HaveSorts}
 use Rattle.circ_theory.specs.Theory.{Theory, Pair, HasNoConditions, pair_with, CaseList, IsWellSortedPair}
 use Rattle.circ_theory.specs.WellFormed.{IsWellFormed}
 use Rattle.circ_theory.specs.Derivable.{is_case}
-use Rattle.circ_theory.specs.declared.parts.Goal.{Goal}
+use Rattle.circ_theory.specs.Goal.{Goal}
 use Rattle.circ_theory.proofs.Casing.{contains_first, contains_next}
 use Rattle.circ_theory.proofs.Lists.{all_at}
 use Rattle.circ_theory.proofs.Rewriting.{contains_at}

@@ -8,7 +8,7 @@ use Rattle.circ_theory.specs.Theory.{Theory, IsVisible, HasNoConditions}
 use Rattle.circ_theory.specs.Rule.{is_bound}
 use Rattle.circ_theory.specs.WellFormed.{IsWellFormed}
 use Rattle.circ_theory.specs.Observing.{is_hidden}
-use Rattle.circ_theory.specs.declared.parts.Goal.{Goal}
+use Rattle.circ_theory.specs.Goal.{Goal}
 use Rattle.circ_theory.proofs.Casing.{hidden_tells}
 use Rattle.circ_theory.proofs.Rewriting.{contains_at}
 use Rattle.circ_proof.specs.Goals.{AreSortedGoals}

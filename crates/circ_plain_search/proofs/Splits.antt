@@ -11,7 +11,7 @@ use Rattle.circ_theory.specs.Signature.{IsWellSorted, HaveSorts}
 use Rattle.circ_theory.specs.Theory.{Theory, Pair, pair_with, CaseList}
 use Rattle.circ_theory.specs.WellFormed.{IsWellFormed}
 use Rattle.circ_theory.specs.Observing.{cases_of, case_list}
-use Rattle.circ_theory.specs.declared.parts.Goal.{Goal}
+use Rattle.circ_theory.specs.Goal.{Goal}
 use Rattle.circ_theory.proofs.Casing.{contains_first, contains_next}
 use Rattle.circ_theory.proofs.Lists.{all_push}
 use Rattle.circ_special.specs.declared.place.Place.{Place}

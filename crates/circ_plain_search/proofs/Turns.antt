@@ -9,7 +9,7 @@ use Rattle.circ_term.specs.Limits.{Limit}
 use Rattle.circ_theory.specs.Theory.{Theory, Pair, IsHidden, HasNoConditions, goal, sides, IsWellSortedGoal}
 use Rattle.circ_theory.specs.WellFormed.{IsWellFormed}
 use Rattle.circ_theory.specs.Observing.{is_hidden, case_list}
-use Rattle.circ_theory.specs.declared.parts.Goal.{Goal}
+use Rattle.circ_theory.specs.Goal.{Goal}
 use Rattle.circ_theory.proofs.Casing.{hidden_tells}
 use Rattle.circ_theory.proofs.Lists.{all_at, all_by, slice_get-front}
 use Rattle.circ_theory.proofs.Rewriting.{contains_at}

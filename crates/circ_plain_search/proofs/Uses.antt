@@ -13,7 +13,7 @@ use Rattle.circ_theory.specs.Theory.{Theory, Pair, sides}
 use Rattle.circ_theory.specs.Variables.{FitVariables, given}
 use Rattle.circ_theory.specs.Rewriting.{from_side, to_side}
 use Rattle.circ_theory.specs.Fresh.{above}
-use Rattle.circ_theory.specs.declared.parts.Goal.{Goal}
+use Rattle.circ_theory.specs.Goal.{Goal}
 use Rattle.circ_theory.proofs.Instances.{instance_well_sorted}
 use Rattle.circ_theory.proofs.Lists.{all_at, all_by}
 use Rattle.circ_theory.proofs.Rewriting.{contains_at, given_substitution}

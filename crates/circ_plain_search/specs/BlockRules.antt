@@ -5,7 +5,7 @@ use Rattle.circ_term.specs.Tree.{sort_of, operator_number}
 use Rattle.circ_theory.specs.Theory.{Theory}
 use Rattle.circ_theory.specs.Rule.{is_bound}
 use Rattle.circ_theory.specs.Observing.{is_hidden}
-use Rattle.circ_theory.specs.declared.parts.Goal.{Goal}
+use Rattle.circ_theory.specs.Goal.{Goal}
 use Rattle.circ_rewrite.specs.TheoryRules.{theory_rules}
 use Rattle.circ_rewrite.specs.declared.parts.Rule.{Rule}
 use Rattle.circ_rewrite.specs.declared.parts.RuleName.TheVariants as name

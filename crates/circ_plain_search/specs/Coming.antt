@@ -1,7 +1,7 @@
 -- Where the search comes to, turn by turn, and what is known of each such standing.
 use Rattle.std.specs.Prelude.{◌≡◌, ◌≤◌, ◌+◌, ◌^◌, List, [], length, Ok}
 use Rattle.circ_theory.specs.Theory.{Theory, IsWellSortedGoal}
-use Rattle.circ_theory.specs.declared.parts.Goal.{Goal}
+use Rattle.circ_theory.specs.Goal.{Goal}
 use Rattle.circ_special.specs.declared.place.Place.{Place}
 use Rattle.circ_theory.specs.Fresh.{fresh_in}
 use Rattle.circ_proof.specs.Proof.{step_limit}

@@ -9,7 +9,7 @@ use Rattle.circ_term.specs.Substitution.{Substitution, instance}
 use Rattle.circ_theory.specs.Theory.{Theory, Pair, sides}
 use Rattle.circ_theory.specs.Variables.{Variable, variables_of, sorted}
 use Rattle.circ_theory.specs.Observing.{cases_of}
-use Rattle.circ_theory.specs.declared.parts.Goal.{Goal}
+use Rattle.circ_theory.specs.Goal.{Goal}
 use Rattle.circ_theory.specs.declared.way.Way.{Way}
 use Rattle.circ_theory.specs.declared.way.Way.TheVariants.{Forth, Back}
 use Rattle.circ_special.specs.declared.place.Place.{Place}

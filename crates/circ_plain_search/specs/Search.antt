@@ -7,7 +7,7 @@ use Rattle.circ_term.specs.Limits.{Limit, Big, Deep, first_limit, or_else}
 use Rattle.circ_term.specs.Order.{is_same}
 use Rattle.circ_theory.specs.Theory.{Theory, Pair, pair_with, goal}
 use Rattle.circ_theory.specs.Observing.{cases_of, is_hidden}
-use Rattle.circ_theory.specs.declared.parts.Goal.{Goal}
+use Rattle.circ_theory.specs.Goal.{Goal}
 use Rattle.circ_special.specs.declared.place.Place.{Place}
 use Rattle.circ_proof.specs.Plain.{LinkOf, Equation_link, Hypothesis_link, Assumption_link, Content_link, ChainOf, WhyOf, WhysOf, Same_why, Split_why, no_why, more_whys}
 use Rattle.circ_rewrite.specs.Norm.{Normalised, Normal_form, Budget_spent, Limit_passed, norm}

@@ -5,7 +5,7 @@ ghost use Rattle.std.specs.List.{slice_get, Contains};
 ghost use Rattle.circ_theory.specs.Signature.{Operator, IsWellSorted};
 ghost use Rattle.circ_theory.specs.Theory.{Theory, Derivative, goal};
 ghost use Rattle.circ_theory.specs.WellFormed.{IsWellFormed};
-ghost use Rattle.circ_theory.specs.declared.parts.Goal.{Goal};
+ghost use Rattle.circ_theory.specs.Goal.{Goal};
 ghost use Rattle.circ_special.specs.declared.place.Place.{Place};
 ghost use Rattle.circ_special.specs.Special.{IsSet};
 ghost use Rattle.circ_rewrite.specs.Replacement.{Traced};

@@ -9,7 +9,7 @@ use Rattle.circ_term.specs.Tree.{Tree, none, sort_of}
 use Rattle.circ_theory.specs.Signature.{HaveSorts, IsWellSorted}
 use Rattle.circ_theory.specs.Theory.{Theory, Pair, CaseList, IsVisible, IsWellSortedPair, IsCondition, IsWellSortedGoal}
 use Rattle.circ_theory.specs.Derivable.{is_case}
-use Rattle.circ_theory.specs.declared.parts.Goal.{Goal}
+use Rattle.circ_theory.specs.Goal.{Goal}
 use Rattle.circ_theory.specs.Observing.{cases_of, case_list}
 use Rattle.circ_theory.specs.WellFormed.{IsWellFormed}
 use Rattle.circ_theory.proofs.Weakening.{first_or_rest, in_rest}

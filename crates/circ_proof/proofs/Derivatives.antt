@@ -10,7 +10,7 @@ use Rattle.circ_theory.specs.Theory.{Theory, Derivative, IsWellSortedGoal}
 use Rattle.circ_theory.specs.WellFormed.{IsWellFormed, IsDerivative}
 use Rattle.circ_theory.specs.Experiment.{derived}
 use Rattle.circ_theory.specs.Fresh.{fresh_in, numbered_from, given_parameters, parameter_sorts, variables_from, FitSome}
-use Rattle.circ_theory.specs.declared.parts.Goal.{Goal}
+use Rattle.circ_theory.specs.Goal.{Goal}
 use Rattle.circ_theory.proofs.Rewriting.{contains_at}
 use Rattle.circ_theory.proofs.Derived.{derived-numbered_from, variables_fit}
 

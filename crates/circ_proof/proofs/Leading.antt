@@ -10,7 +10,7 @@ use Rattle.circ_theory.specs.Variables.{variables_of, sorted}
 use Rattle.circ_theory.specs.Derivable.{Derivable, by_same, by_symmetry, by_chain, by_premise}
 use Rattle.circ_theory.specs.WellFormed.{IsWellFormed}
 use Rattle.circ_theory.specs.Rewriting.{from_side, to_side, Replaces, named, by_terms, RewritesBy}
-use Rattle.circ_theory.specs.declared.parts.Goal.{Goal}
+use Rattle.circ_theory.specs.Goal.{Goal}
 use Rattle.circ_theory.specs.declared.way.Way.{Way}
 use Rattle.circ_theory.specs.declared.way.Way.TheVariants.{Forth, Back}
 use Rattle.circ_theory.proofs.Instances.{instance_well_sorted}

@@ -9,7 +9,7 @@ use Rattle.circ_theory.specs.Signature.{Signature, IsSubstitution}
 use Rattle.circ_theory.specs.Theory.{Theory, Derivative, IsWellSortedGoal}
 use Rattle.circ_theory.specs.WellFormed.{IsWellFormed}
 use Rattle.circ_theory.specs.Experiment.{plug}
-use Rattle.circ_theory.specs.declared.parts.Goal.{Goal}
+use Rattle.circ_theory.specs.Goal.{Goal}
 use Rattle.circ_theory.proofs.Weakening.{first_or_rest, in_rest}
 use Rattle.circ_theory.proofs.Casing.{contains_first}
 use Rattle.circ_theory.proofs.Behaviour.{plug_substitution}

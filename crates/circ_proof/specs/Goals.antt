@@ -2,7 +2,7 @@
 use Rattle.std.specs.Prelude.{List, [], ◌∷◌, ◌++◌}
 use Rattle.std.specs.List.{Contains}
 use Rattle.circ_theory.specs.Theory.{Theory, Pair, goal, IsWellSortedGoal}
-use Rattle.circ_theory.specs.declared.parts.Goal.{Goal}
+use Rattle.circ_theory.specs.Goal.{Goal}
 
 abbrev pub AreSortedGoals : Theory → List Goal → Type 0
 AreSortedGoals th H = (g : Goal) → Contains H g → IsWellSortedGoal th g

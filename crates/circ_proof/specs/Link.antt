@@ -7,8 +7,8 @@ use Rattle.circ_term.specs.Substitution.{Substitution, instance}
 use Rattle.circ_theory.specs.Theory.{Theory, Pair, goal_of, IsHidden}
 use Rattle.circ_theory.specs.Derivable.{Derivable}
 use Rattle.circ_theory.specs.Rewriting.{from_side, to_side, Replaces, named, by_terms, RewritesBy}
-use Rattle.circ_theory.specs.declared.parts.Equation.{Equation}
-use Rattle.circ_theory.specs.declared.parts.Goal.{Goal}
+use Rattle.circ_theory.specs.Goal.{Equation}
+use Rattle.circ_theory.specs.Goal.{Goal}
 use Rattle.circ_theory.specs.declared.way.Way.{Way}
 use Rattle.circ_special.specs.declared.place.Place.{Place}
 use Rattle.circ_special.specs.Special.{IsSpecial}

@@ -1,7 +1,7 @@
 -- The parts of a proof, in the order of its text (`Parts`).
 use Rattle.std.specs.Prelude.{ℕ, List, [], ◌∷◌, ◌++◌, map}
 use Rattle.circ_term.specs.Tree.{Tree}
-use Rattle.circ_theory.specs.declared.parts.Goal.{Goal}
+use Rattle.circ_theory.specs.Goal.{Goal}
 use Rattle.circ_special.specs.declared.place.Place.{Place}
 use Rattle.circ_proof.specs.Plain.{LinkOf}
 use Rattle.circ_proof.specs.Rules.{ProofStep}

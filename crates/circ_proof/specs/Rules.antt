@@ -8,7 +8,7 @@ use Rattle.circ_theory.specs.Theory.{Theory, Pair, goal, sides, Derivative, Case
 use Rattle.circ_theory.specs.Derivable.{is_case}
 use Rattle.circ_theory.specs.Experiment.{derived}
 use Rattle.circ_theory.specs.Observing.{parameters_in, cases_of, case_list}
-use Rattle.circ_theory.specs.declared.parts.Goal.{Goal}
+use Rattle.circ_theory.specs.Goal.{Goal}
 use Rattle.circ_special.specs.declared.place.Place.{Place}
 use Rattle.circ_proof.specs.Plain.{ChainOf, WhyOf, map_chain, map_why}
 use Rattle.circ_proof.specs.Goals.{AreSortedGoals, with_cond}

@@ -8,7 +8,7 @@ use Rattle.circ_form.specs.declared.forms.Piece.TheVariants.{Hole, Word}
 use Rattle.circ_theory.specs.declared.fault.TheoryFault.{TheoryFault}
 use Rattle.circ_form.specs.Form.{pieces_of, form_fault}
 use Rattle.circ_theory.specs.Signature.{Signature, Operator}
-use Rattle.circ_theory.specs.declared.parts.Goal.{Goal}
+use Rattle.circ_theory.specs.Goal.{Goal}
 use Rattle.circ_theory.specs.Theory.{Theory}
 use Rattle.circ_theory.specs.Adding.{sort_number, op_of_form, sort_fault, var_fault, op_fault, equation_fault, with_sort, with_var, with_op, with_equation}
 use Rattle.circ_theory.specs.Observing.{derivative_fault, with_derivative, cases_fault, with_cases}

@@ -4,7 +4,7 @@ use Rattle.std.proofs.Common.{Less}
 use Rattle.circ_term.specs.Tree.{Tree, trees_of}
 use Rattle.circ_term.specs.Order.{trees_cmp}
 use Rattle.circ_theory.specs.declared.fault.TheoryFault.{TheoryFault}
-use Rattle.circ_theory.specs.declared.parts.Goal.{Goal}
+use Rattle.circ_theory.specs.Goal.{Goal}
 use Rattle.circ_theory.specs.Theory.{Theory, goal}
 use Rattle.circ_theory.specs.Adding.{sort_number, sort_fault, equation_fault, with_sort}
 use Rattle.circ_theory.specs.Observing.{derivative_fault, cases_fault}

@@ -5,7 +5,7 @@ use Rattle.std.specs.List.{slice_get, AllByRecursion}
 use Rattle.circ_term.proofs.Within.{drop_read}
 use Rattle.circ_theory.specs.Theory.{Theory}
 use Rattle.circ_theory.specs.WellFormed.{IsWellFormed}
-use Rattle.circ_theory.specs.declared.parts.Goal.{Goal}
+use Rattle.circ_theory.specs.Goal.{Goal}
 use Rattle.circ_plain_search.specs.PlainSearch.{IsSearchable}
 use Rattle.circ_plain_search.proofs.Led.{all_append}
 use Rattle.circ_refute.specs.PlainRefutation.{Refuted, Told_apart, Alike, Spent, Past_limit, Conclusion, conclude, Decision, decide, unless_alike, refutation, refutations, goals_in}

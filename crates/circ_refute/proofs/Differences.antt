@@ -16,7 +16,7 @@ use Rattle.circ_theory.specs.Experiment.{Entry, plug, derived, on}
 use Rattle.circ_theory.specs.Fresh.{numbered_from, given_parameters, variables_from, parameter_sorts}
 use Rattle.circ_theory.specs.Variables.{Variable, occurrences, all_occurrences}
 use Rattle.circ_theory.specs.Observing.{is_hidden, is_parameter, cases_of, case_list}
-use Rattle.circ_theory.specs.declared.parts.Goal.{Goal}
+use Rattle.circ_theory.specs.Goal.{Goal}
 use Rattle.circ_theory.proofs.Behaviour.{plug_substitution, plug_derivable}
 use Rattle.circ_theory.proofs.Casing.{hidden_tells}
 use Rattle.circ_theory.proofs.Congruence.{KeepsDerivable}

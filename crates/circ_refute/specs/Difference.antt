@@ -5,7 +5,7 @@ use Rattle.circ_term.specs.Tree.{Tree, App, none, sort_of}
 use Rattle.circ_theory.specs.Theory.{Theory, CaseList}
 use Rattle.circ_theory.specs.Derivable.{Derivable}
 use Rattle.circ_theory.specs.Experiment.{on}
-use Rattle.circ_theory.specs.declared.parts.Goal.{Goal}
+use Rattle.circ_theory.specs.Goal.{Goal}
 use Rattle.circ_match.specs.Matcher.{has_variable}
 use Rattle.circ_entry.specs.Entries.{Written, written_entries, FitsWritten}
 use Rattle.circ_refute.specs.PlainRefutation.{Refuted, Told_apart, Alike, Spent, Past_limit, Decision}

@@ -1,7 +1,7 @@
 -- Goals over streams of bits and over gates, whose equations have conditions, that try the definition, with what is found of them.
 use Rattle.std.specs.Prelude.{ℕ, List, [], ◌∷◌}
 use Rattle.circ_theory.specs.Theory.{goal}
-use Rattle.circ_theory.specs.declared.parts.Goal.{Goal}
+use Rattle.circ_theory.specs.Goal.{Goal}
 use Rattle.circ_entry.specs.Entries.{Written, written_entry}
 use Rattle.circ_plain_search.specs.Examples.{bits, zero_bit, one_bit, zeros, ones, zip}
 use Rattle.circ_conditional_search.specs.Examples.{gates, gate}

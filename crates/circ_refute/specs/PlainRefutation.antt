@@ -9,7 +9,7 @@ use Rattle.circ_theory.specs.Theory.{Theory, Pair, pair_with, Derivative}
 use Rattle.circ_theory.specs.Experiment.{derived}
 use Rattle.circ_theory.specs.Observing.{is_hidden, cases_of}
 use Rattle.circ_theory.specs.Fresh.{fresh_after, numbered_from, variables_from, parameter_sorts}
-use Rattle.circ_theory.specs.declared.parts.Goal.{Goal}
+use Rattle.circ_theory.specs.Goal.{Goal}
 use Rattle.circ_rewrite.specs.Norm.{Normalised, Normal_form, Budget_spent, Limit_passed}
 use Rattle.circ_rewrite.specs.TheoryRules.{theory_rules}
 use Rattle.circ_conditional_norm.specs.Norm.{conditional_norm}

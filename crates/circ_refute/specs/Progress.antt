@@ -5,7 +5,7 @@ use Rattle.circ_term.specs.Tree.{Tree}
 use Rattle.circ_theory.specs.Limits.{derivative_limit}
 use Rattle.circ_theory.specs.Theory.{Theory, Pair, pair_with, IsWellSortedPair}
 use Rattle.circ_theory.specs.Fresh.{above}
-use Rattle.circ_theory.specs.declared.parts.Goal.{Goal}
+use Rattle.circ_theory.specs.Goal.{Goal}
 use Rattle.circ_rewrite.specs.TheoryRules.{theory_rules}
 use Rattle.circ_memo.specs.Value.{Rewriting}
 use Rattle.circ_entry.specs.Entries.{Written}

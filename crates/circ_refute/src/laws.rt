@@ -3,7 +3,7 @@ ghost use Rattle.std.specs.Prelude.{ℕ, List};
 ghost use Rattle.std.specs.List.{AllByRecursion};
 ghost use Rattle.circ_theory.specs.Theory.{Theory};
 ghost use Rattle.circ_theory.specs.WellFormed.{IsWellFormed};
-ghost use Rattle.circ_theory.specs.declared.parts.Goal.{Goal};
+ghost use Rattle.circ_theory.specs.Goal.{Goal};
 ghost use Rattle.circ_plain_search.specs.PlainSearch.{IsSearchable};
 ghost use Rattle.circ_refute.specs.PlainRefutation.{refutation, refutations};
 ghost use Rattle.circ_refute.specs.Difference.{IsRight, IsRightDecision};

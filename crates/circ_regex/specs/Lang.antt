@@ -4,7 +4,7 @@ use Rattle.circ_term.specs.Tree.{Tree, Var, App, none, more}
 use Rattle.circ_form.specs.declared.forms.Piece.TheVariants.{Hole, Word}
 use Rattle.circ_theory.specs.declared.parts.Side.{Side}
 use Rattle.circ_theory.specs.declared.parts.Side.TheVariants.{Neither, Right}
-use Rattle.circ_theory.specs.declared.parts.Equation.{Equation}
+use Rattle.circ_theory.specs.Goal.{Equation}
 use Rattle.circ_theory.specs.Signature.{Operator}
 use Rattle.circ_theory.specs.Theory.{Theory, Derivative, CaseList, declared}
 

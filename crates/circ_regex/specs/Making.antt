@@ -3,7 +3,7 @@ use Rattle.std.specs.Prelude.{ℕ, List, [], ◌∷◌, ◌==◌, if◌then◌el
 use Rattle.std.specs.Option.{option_and_then}
 use Rattle.circ_term.specs.Tree.{Tree}
 use Rattle.circ_form.specs.Form.{pieces_of}
-use Rattle.circ_theory.specs.declared.parts.Equation.{Equation}
+use Rattle.circ_theory.specs.Goal.{Equation}
 use Rattle.circ_theory.specs.Signature.{Operator}
 use Rattle.circ_theory.specs.Theory.{Theory}
 use Rattle.circ_theory.specs.Adding.{with_sort, with_var, with_op, with_equation}

@@ -4,7 +4,7 @@ ghost use Rattle.std.specs.Prelude.{codes};
 ghost use Rattle.circ_term.specs.Tree.{Tree, sort_of};
 ghost use Rattle.circ_term.specs.Limits.{IsWithinLimits};
 ghost use Rattle.circ_term.specs.Substitution.{Substitution, instance};
-ghost use Rattle.circ_theory.specs.declared.parts.Goal.{Goal};
+ghost use Rattle.circ_theory.specs.Goal.{Goal};
 ghost use Rattle.circ_theory.specs.Signature.{IsSubstitution, IsWellSorted};
 ghost use Rattle.circ_theory.specs.Theory.{IsEquation, HasNoConditions, goal};
 ghost use Rattle.circ_theory.specs.Derivable.{Derivable};

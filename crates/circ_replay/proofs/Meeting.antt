@@ -5,7 +5,7 @@ use Rattle.circ_term.proofs.Within.{drop_read}
 use Rattle.circ_theory.specs.Theory.{Pair}
 use Rattle.circ_theory.specs.Pairs.{plain_pair}
 use Rattle.circ_theory.specs.Rewriting.{named}
-use Rattle.circ_theory.specs.declared.pairs.Pair.{Pair as PairOfTerms}
+use Rattle.circ_theory.specs.Pairs.{PairOfTerms}
 use Rattle.circ_proof.specs.declared.links.Link.{Link}
 use Rattle.circ_proof.specs.declared.links.Chain.{Chain}
 use Rattle.circ_proof.specs.Plain.{LinkOf, LinksOf, ChainsOf, ChainOf, Equation_link, Hypothesis_link, Assumption_link, Content_link, Same_why}

@@ -9,8 +9,8 @@ use Rattle.circ_term.specs.Subst.{Bound, substitution_of}
 use Rattle.circ_theory.specs.Theory.{Pair, sides, goal_of, instance_pair, IsHidden}
 use Rattle.circ_theory.specs.Variables.{Variable, variables_of, sorted, FitVariables, given}
 use Rattle.circ_theory.specs.Rewriting.{from_side, to_side, by_terms, RewritesBy}
-use Rattle.circ_theory.specs.declared.parts.Equation.{Equation}
-use Rattle.circ_theory.specs.declared.parts.Goal.{Goal}
+use Rattle.circ_theory.specs.Goal.{Equation}
+use Rattle.circ_theory.specs.Goal.{Goal}
 use Rattle.circ_theory.specs.declared.way.Way.{Way}
 use Rattle.circ_special.specs.Special.{IsSpecial}
 use Rattle.circ_proof.specs.Plain.{LinkOf, ChainsOf, Equation_link, Hypothesis_link, no_chain, more_chains, chains_in}

@@ -3,7 +3,7 @@ use Rattle.std.specs.Prelude.{List, Option, Some, None}
 use Rattle.circ_term.specs.Tree.{Tree}
 use Rattle.circ_theory.specs.Theory.{Pair}
 use Rattle.circ_theory.specs.Pairs.{plain_pair}
-use Rattle.circ_theory.specs.declared.pairs.Pair.{Pair as PairOfTerms}
+use Rattle.circ_theory.specs.Pairs.{PairOfTerms}
 use Rattle.circ_proof.specs.Plain.{LinkOf, ChainOf}
 use Rattle.circ_proof.specs.Runs.{Runs}
 use Rattle.circ_proof.specs.Link.{Setting, Leads}

@@ -6,7 +6,7 @@ use Rattle.std.proofs.lemmas.Bool.{eq-eqb}
 use Rattle.circ_term.specs.Limits.{Big, Deep}
 use Rattle.circ_term.specs.Tree.{sort_of}
 use Rattle.circ_theory.specs.Theory.{Theory}
-use Rattle.circ_theory.specs.declared.parts.Goal.{Goal}
+use Rattle.circ_theory.specs.Goal.{Goal}
 use Rattle.circ_proof.specs.Accepted.{Accepted}
 use Rattle.circ_proof.specs.Proof.{Proof}
 use Rattle.circ_entry.specs.Entries.{Written, FitsWritten}

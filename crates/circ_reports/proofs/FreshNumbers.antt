@@ -10,7 +10,7 @@ use Rattle.circ_theory.specs.Signature.{Signature, IsWellSorted, HaveSorts, IsSo
 use Rattle.circ_theory.specs.Theory.{Theory, Derivative}
 use Rattle.circ_theory.specs.Variables.{Variable, is_variable, seen, seen_in, seen_in_all, occurrences, all_occurrences}
 use Rattle.circ_theory.specs.WellFormed.{IsWellFormed}
-use Rattle.circ_theory.specs.declared.parts.Goal.{Goal}
+use Rattle.circ_theory.specs.Goal.{Goal}
 use Rattle.circ_theory.proofs.Rewriting.{contains_at}
 use Rattle.circ_entry.specs.Entries.{no_derivative, derivative_at, Written, HaveParameters}
 use Rattle.circ_reports.specs.Expand.{numbers_from, numbers_in, is_free, free_numbers, variables_named, sorts_at, entries_named, parameter_count}

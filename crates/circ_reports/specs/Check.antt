@@ -5,7 +5,7 @@ use Rattle.circ_outer.specs.Shelf.{ShelfState}
 use Rattle.circ_theory.specs.Signature.{Signature}
 use Rattle.circ_theory.specs.Theory.{Theory}
 use Rattle.circ_theory.specs.Experiment.{Behaves}
-use Rattle.circ_theory.specs.declared.parts.Goal.{Goal}
+use Rattle.circ_theory.specs.Goal.{Goal}
 use Rattle.circ_proof.specs.Proof.{Block, Proof}
 use Rattle.circ_proof.specs.Accepted.{Derives, FirstFail}
 use Rattle.circ_show.specs.GoalsText.{all_goal_lines, relation_lines}

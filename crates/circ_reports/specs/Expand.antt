@@ -9,7 +9,7 @@ use Rattle.circ_theory.specs.Signature.{Signature}
 use Rattle.circ_theory.specs.Theory.{Theory, Pair, pair_with}
 use Rattle.circ_theory.specs.Variables.{seen_in}
 use Rattle.circ_theory.specs.declared.way.Way.{Way}
-use Rattle.circ_theory.specs.declared.parts.Goal.{Goal}
+use Rattle.circ_theory.specs.Goal.{Goal}
 use Rattle.circ_mixfix.specs.Printing.{text_of_term}
 use Rattle.circ_line.specs.Text.{path_word, way_word}
 use Rattle.circ_proof.specs.Accepted.{Accepted, FirstFail}

@@ -1,7 +1,7 @@
 -- A proof that is read and checked as its text comes.
 use Rattle.std.specs.Prelude.{◌≡◌, ◌≢◌, ◌≤◌, ℕ, List, [], ◌∷◌, ◌++◌, length, map, Some, Result, Ok, Err, Vec}
 use Rattle.circ_theory.specs.Theory.{Theory}
-use Rattle.circ_theory.specs.declared.parts.Goal.{Goal}
+use Rattle.circ_theory.specs.Goal.{Goal}
 use Rattle.circ_proof.specs.Accepted.{FirstFail}
 use Rattle.circ_proof.specs.Parts.{Part, Head, Certificate, Goals, Step}
 use Rattle.circ_proof.specs.Proof.{Proof}

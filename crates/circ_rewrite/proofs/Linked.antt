@@ -14,7 +14,7 @@ use Rattle.circ_theory.specs.Theory.{Theory, Pair, goal_of, IsWellSortedPair}
 use Rattle.circ_theory.specs.WellFormed.{IsWellFormed}
 use Rattle.circ_theory.specs.Variables.{Variable, is_variable, is_before, put_in_order, sorted, variables_of, FitVariables, given}
 use Rattle.circ_theory.specs.Rewriting.{RewritesBy, by_terms}
-use Rattle.circ_theory.specs.declared.parts.Goal.{Goal}
+use Rattle.circ_theory.specs.Goal.{Goal}
 use Rattle.circ_theory.specs.declared.way.Way.TheVariants.{Forth}
 use Rattle.circ_theory.proofs.Lists.{all_at}
 use Rattle.circ_theory.proofs.Instances.{sort_of-instance_by, instance_well_sorted}

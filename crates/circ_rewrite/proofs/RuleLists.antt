@@ -10,8 +10,8 @@ use Rattle.circ_term.proofs.Within.{drop_read}
 use Rattle.circ_theory.specs.Rule.{is_rule, is_bound}
 use Rattle.circ_theory.specs.Theory.{Theory, goal_of, HasNoConditions}
 use Rattle.circ_theory.specs.WellFormed.{IsWellFormed}
-use Rattle.circ_theory.specs.declared.parts.Equation.{Equation}
-use Rattle.circ_theory.specs.declared.parts.Goal.{Goal}
+use Rattle.circ_theory.specs.Goal.{Equation}
+use Rattle.circ_theory.specs.Goal.{Goal}
 use Rattle.circ_theory.proofs.Rewriting.{contains_at}
 use Rattle.circ_theory.proofs.Casing.{contains_first, contains_next}
 use Rattle.circ_rewrite.specs.Due.{IsRewriteRule, AreUnconditional}

@@ -4,7 +4,7 @@ use Rattle.std.specs.Coded.{Coded, code_by, coded×, coded_ℕ}
 use Rattle.circ_term.specs.Tree.{Tree}
 use Rattle.circ_term.specs.Code.{tree_code}
 use Rattle.circ_theory.specs.Pair.{Pair, pairs_code}
-use Rattle.circ_theory.specs.declared.parts.Goal.{Goal}
+use Rattle.circ_theory.specs.Goal.{Goal}
 use Rattle.circ_rewrite.specs.declared.parts.Rule.{Rule}
 use Rattle.circ_rewrite.specs.declared.parts.RuleName.{RuleName}
 use Rattle.circ_rewrite.specs.declared.parts.RuleName.TheVariants.{Equation, Lemma}

@@ -10,7 +10,7 @@ use Rattle.circ_theory.specs.Signature.{Signature}
 use Rattle.circ_theory.specs.Theory.{Pair, goal}
 use Rattle.circ_theory.specs.Rule.{is_bound}
 use Rattle.circ_theory.specs.Variables.{Variable, variables_of, sorted}
-use Rattle.circ_theory.specs.declared.parts.Goal.{Goal}
+use Rattle.circ_theory.specs.Goal.{Goal}
 use Rattle.circ_aci.specs.Canonical.{canonical_under}
 use Rattle.circ_rewrite.specs.Matching.{matching, matches}
 use Rattle.circ_rewrite.specs.Replacement.{Replacement, By_rule, By_assumption, By_content, no_pass}

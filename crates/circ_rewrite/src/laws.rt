@@ -6,7 +6,7 @@ ghost use Rattle.circ_term.specs.Tree.{Tree};
 ghost use Rattle.circ_theory.specs.Signature.{Signature, IsWellSorted};
 ghost use Rattle.circ_theory.specs.Theory.{Theory, Pair, IsWellSortedPair, HasNoConditions};
 ghost use Rattle.circ_theory.specs.WellFormed.{IsWellFormed};
-ghost use Rattle.circ_theory.specs.declared.parts.Goal.{Goal};
+ghost use Rattle.circ_theory.specs.Goal.{Goal};
 ghost use Rattle.circ_proof.specs.Link.{Setting};
 ghost use Rattle.circ_rewrite.specs.declared.parts.Rule.{Rule};
 ghost use Rattle.circ_rewrite.specs.declared.parts.RuleName.TheVariants.{Equation};

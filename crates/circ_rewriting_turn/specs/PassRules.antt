@@ -1,7 +1,7 @@
 -- The rules of a block's passes.
 use Rattle.std.specs.Prelude.{◌≡◌, Bool, List, length}
 use Rattle.circ_theory.specs.Theory.{Theory}
-use Rattle.circ_theory.specs.declared.parts.Goal.{Goal}
+use Rattle.circ_theory.specs.Goal.{Goal}
 use Rattle.circ_plain_search.specs.Search.{Standing}
 use Rattle.circ_attempt.specs.Attempt.{derived_rules}
 use Rattle.circ_attempt.specs.Following.{left_of_script}

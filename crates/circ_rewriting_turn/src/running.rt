@@ -1,7 +1,7 @@
 //! The run of a search with hypotheses as rules.
 ghost use Rattle.std.specs.Prelude.{◌≡◌, ◌<◌, ◌∷◌, [], List, length, Ok, IfOk, OnOk};
 ghost use Rattle.std.specs.Bool.{OnTrue};
-ghost use Rattle.circ_theory.specs.declared.parts.Goal.{Goal as TheGoal};
+ghost use Rattle.circ_theory.specs.Goal.{Goal as TheGoal};
 ghost use Rattle.circ_theory.specs.Theory.{goal};
 ghost use Rattle.circ_plain_search.specs.BlockRules.{block_rules};
 ghost use Rattle.circ_plain_search.specs.Search.{Sides as TheSides};

@@ -2,7 +2,7 @@
 ghost use Rattle.std.specs.Prelude.{◌≡◌, ◌<◌, ◌∷◌, List, Ok, drop, length};
 ghost use Rattle.std.specs.Option.{option_map};
 ghost use Rattle.circ_theory.specs.Theory.{goal};
-ghost use Rattle.circ_theory.specs.declared.parts.Goal.{Goal as TheGoal};
+ghost use Rattle.circ_theory.specs.Goal.{Goal as TheGoal};
 ghost use Rattle.circ_plain_search.specs.BlockRules.{block_rules};
 ghost use Rattle.circ_plain_search.specs.Search.{sides_with, Sides as TheSides};
 ghost use Rattle.circ_conditional_search.specs.Coming.{IsReadyTrying, IsSmallTrying};

@@ -9,7 +9,7 @@ use Rattle.circ_term.specs.declared.fault.TermFault.{TermFault}
 use Rattle.circ_theory.specs.Theory.{Theory}
 use Rattle.circ_theory.specs.WellFormed.{IsWellFormed}
 use Rattle.circ_theory.specs.Fresh.{derivatives_of}
-use Rattle.circ_theory.specs.declared.parts.Goal.{Goal}
+use Rattle.circ_theory.specs.Goal.{Goal}
 use Rattle.circ_proof.specs.Goals.{AreSortedGoals}
 use Rattle.circ_proof.specs.Rules.{state, derivatives_on, IsSortedState}
 use Rattle.circ_rules.specs.Derivatives.{Cause, No_numbers, first_cause, limit_in, MakesDerivatives}

@@ -15,7 +15,7 @@ use Rattle.circ_theory.specs.Variables.{Variable, occurrences}
 use Rattle.circ_theory.specs.Observing.{is_parameter, parameters_in}
 use Rattle.circ_theory.specs.Experiment.{derived}
 use Rattle.circ_theory.specs.Fresh.{fresh_in, numbered_from, given_parameters, parameter_sorts, variables_from, derivatives_of}
-use Rattle.circ_theory.specs.declared.parts.Goal.{Goal}
+use Rattle.circ_theory.specs.Goal.{Goal}
 use Rattle.circ_proof.specs.Rules.{derived_goal, derivatives_on}
 use Rattle.circ_proof.proofs.Derivatives.{if_some_at, some_if_at, the_derivative, numbered, sorts_are, derivative_at, from_number, taken_next, passed_next}
 use Rattle.circ_rules.specs.Derivatives.{Cause, No_numbers, Past, sides_limit, cause_on, first_cause, limit_in, NamesCause, MakesDerivative, MakesDerivatives}

@@ -8,7 +8,7 @@ use Rattle.circ_theory.specs.Theory.{Derivative}
 use Rattle.circ_theory.specs.Observing.{parameters_in}
 use Rattle.circ_theory.specs.Experiment.{derived}
 use Rattle.circ_theory.specs.Fresh.{fresh_in, numbered_from}
-use Rattle.circ_theory.specs.declared.parts.Goal.{Goal}
+use Rattle.circ_theory.specs.Goal.{Goal}
 use Rattle.circ_proof.specs.Rules.{derived_goal, IsDerivable}
 use Rattle.circ_rules.specs.Derivatives.{Cause, No_numbers, Past, sides_limit, cause_on, first_cause}
 

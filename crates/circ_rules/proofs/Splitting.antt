@@ -5,7 +5,7 @@ use Rattle.circ_term.specs.Tree.{Tree, sort_of}
 use Rattle.circ_theory.specs.Limits.{condition_limit}
 use Rattle.circ_theory.specs.Theory.{Theory}
 use Rattle.circ_theory.specs.Observing.{cases_of, case_list}
-use Rattle.circ_theory.specs.declared.parts.Goal.{Goal}
+use Rattle.circ_theory.specs.Goal.{Goal}
 use Rattle.circ_special.specs.declared.place.Place.{Place}
 use Rattle.circ_theory.specs.Signature.{IsWellSorted}
 use Rattle.circ_theory.specs.WellFormed.{IsWellFormed}

@@ -10,7 +10,7 @@ use Rattle.circ_theory.specs.Theory.{Theory, Derivative, goal}
 use Rattle.circ_theory.specs.Observing.{parameters_in}
 use Rattle.circ_theory.specs.Experiment.{derived}
 use Rattle.circ_theory.specs.Fresh.{fresh_in, given_parameters, derivatives_of}
-use Rattle.circ_theory.specs.declared.parts.Goal.{Goal}
+use Rattle.circ_theory.specs.Goal.{Goal}
 use Rattle.circ_proof.specs.Rules.{derived_goal, derivatives_on}
 use Rattle.circ_rules.specs.declared.fault.DeriveFault.{DeriveFault}
 use Rattle.circ_rules.specs.declared.fault.DeriveFault.TheVariants as fault

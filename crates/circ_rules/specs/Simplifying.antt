@@ -1,7 +1,7 @@
 -- What the parts of Simplify answer.
 use Rattle.std.specs.Prelude.{List, [], ◌∷◌}
 use Rattle.circ_theory.specs.Theory.{Pair, goal}
-use Rattle.circ_theory.specs.declared.parts.Goal.{Goal}
+use Rattle.circ_theory.specs.Goal.{Goal}
 use Rattle.circ_proof.specs.Rules.{State, state}
 
 -- the sides q take the place of those of the first goal

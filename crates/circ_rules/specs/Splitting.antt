@@ -1,6 +1,6 @@
 -- What the parts of Cases answer.
 use Rattle.std.specs.Prelude.{List, ◌++◌, drop}
-use Rattle.circ_theory.specs.declared.parts.Goal.{Goal}
+use Rattle.circ_theory.specs.Goal.{Goal}
 use Rattle.circ_proof.specs.Rules.{State, state}
 
 -- the goals hs take the place of the first one

@@ -8,7 +8,7 @@ use Rattle.circ_term.specs.Tree.{Tree}
 use Rattle.circ_lexer.specs.TokenList.{TokenList}
 use Rattle.circ_theory.specs.Theory.{Theory}
 use Rattle.circ_theory.specs.declared.fault.TheoryFault.{TheoryFault}
-use Rattle.circ_theory.specs.declared.parts.Goal.{Goal}
+use Rattle.circ_theory.specs.Goal.{Goal}
 use Rattle.circ_mixfix.specs.Answers.{long_count, first_long, GivesReading}
 use Rattle.circ_mixfix.specs.declared.parse.ParseFault.{ParseFault}
 use Rattle.circ_mixfix.specs.declared.parse.ParseFault.TheVariants as parse

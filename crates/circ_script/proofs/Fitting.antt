@@ -7,7 +7,7 @@ use Rattle.std.proofs.lemmas.List.Elements.{Contains-push_cases}
 use Rattle.std.proofs.lemmas.List.Quantifiers.{position-Some}
 use Rattle.circ_term.specs.Tree.{Tree}
 use Rattle.circ_theory.specs.Signature.{IsSort}
-use Rattle.circ_theory.specs.declared.parts.Goal.{Goal}
+use Rattle.circ_theory.specs.Goal.{Goal}
 use Rattle.circ_theory.specs.Theory.{Theory, Declared, declared, Pair, sides}
 use Rattle.circ_theory.specs.Adding.{sort_number, var_number, with_var, hidden_condition}
 use Rattle.circ_theory.specs.Limits.{condition_limit}

@@ -8,7 +8,7 @@ use Rattle.circ_lexer.specs.TokenList.{AreTokens, tokens_of}
 use Rattle.circ_term.specs.Tree.{Tree}
 use Rattle.circ_theory.specs.Theory.{Theory}
 use Rattle.circ_theory.specs.declared.fault.TheoryFault.{TheoryFault}
-use Rattle.circ_theory.specs.declared.parts.Goal.{Goal}
+use Rattle.circ_theory.specs.Goal.{Goal}
 use Rattle.circ_mixfix.specs.Answers.{long_count, first_long}
 use Rattle.circ_statement.specs.Words.{Word, is_word}
 use Rattle.circ_statement.specs.Said as statement

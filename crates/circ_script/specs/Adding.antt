@@ -7,7 +7,7 @@ use Rattle.circ_theory.specs.Limits.{condition_limit}
 use Rattle.circ_theory.specs.Theory.{Theory, Pair}
 use Rattle.circ_theory.specs.declared.fault.TheoryFault.{TheoryFault}
 use Rattle.circ_theory.specs.declared.fault.TheoryFault.TheVariants.{NotVisible}
-use Rattle.circ_theory.specs.declared.parts.Goal.{Goal}
+use Rattle.circ_theory.specs.Goal.{Goal}
 use Rattle.circ_mixfix.specs.Answers.{long_count, first_long, ReadsOnly}
 use Rattle.circ_statement.specs.Words.{Word}
 use Rattle.circ_statement.specs.Said as statement

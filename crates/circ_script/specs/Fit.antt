@@ -4,7 +4,7 @@ use Rattle.std.specs.List.{Contains, AllByRecursion}
 use Rattle.circ_term.specs.Tree.{Tree}
 use Rattle.circ_theory.specs.Limits.{condition_limit}
 use Rattle.circ_theory.specs.Signature.{Signature, IsWellSorted}
-use Rattle.circ_theory.specs.declared.parts.Goal.{Goal}
+use Rattle.circ_theory.specs.Goal.{Goal}
 use Rattle.circ_theory.specs.Theory.{Theory, IsWellSortedGoal}
 use Rattle.circ_theory.specs.Variables.{occurrences}
 use Rattle.circ_read.specs.Adding.{goal_terms}

@@ -5,7 +5,7 @@ use Rattle.circ_lexer.specs.declared.fault.LexFault.{LexFault}
 use Rattle.circ_lexer.specs.Cuts.{IsFirstBad}
 use Rattle.circ_lexer.specs.TokenList.{AreTokens}
 use Rattle.circ_theory.specs.Theory.{Theory}
-use Rattle.circ_theory.specs.declared.parts.Goal.{Goal}
+use Rattle.circ_theory.specs.Goal.{Goal}
 use Rattle.circ_mixfix.specs.Answers.{long_count, first_long}
 use Rattle.circ_statement.specs.Words.{Word}
 use Rattle.circ_statement.specs.Said as statement

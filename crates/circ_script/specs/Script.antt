@@ -1,7 +1,7 @@
 -- What a script asks for, as contracts see it.
 use Rattle.std.specs.Prelude.{List, map}
 use Rattle.circ_term.specs.Tree.{Tree}
-use Rattle.circ_theory.specs.declared.parts.Goal.{Goal}
+use Rattle.circ_theory.specs.Goal.{Goal}
 use Rattle.circ_script.specs.declared.script.Script as made
 
 -- blocks of goals, which are proved one after another, and terms, which are reduced

@@ -6,7 +6,7 @@ use Rattle.circ_lexer.specs.declared.tokens.Span.{Span}
 use Rattle.circ_term.specs.Tree.{Tree}
 use Rattle.circ_theory.specs.Theory.{Theory}
 use Rattle.circ_theory.specs.declared.fault.TheoryFault.{TheoryFault}
-use Rattle.circ_theory.specs.declared.parts.Goal.{Goal}
+use Rattle.circ_theory.specs.Goal.{Goal}
 use Rattle.circ_script.specs.declared.script.Script as made
 use Rattle.circ_mixfix.specs.declared.parse.ParseFault.{ParseFault}
 use Rattle.circ_statement.specs.declared.statements.Sides.{Sides}

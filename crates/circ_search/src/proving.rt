@@ -1,6 +1,6 @@
 //! The search for a proof.
 ghost use Rattle.std.specs.Prelude.{◌≡◌, List, Some, [], map, IfOk};
-ghost use Rattle.circ_theory.specs.declared.parts.Goal.{Goal as TheGoal};
+ghost use Rattle.circ_theory.specs.Goal.{Goal as TheGoal};
 ghost use Rattle.circ_rewrite.specs.Links.{link_of};
 ghost use Rattle.circ_contexts.specs.Candidates.{plain_lists};
 ghost use Rattle.circ_plain_search.specs.Greatest.{GreatestSpecialSet};

@@ -3,7 +3,7 @@ use Rattle.std.proofs.Common.{◌≡◌, ◌↔◌, ◌<◌, ◌+◌, ℕ, zero,
 use Rattle.circ_term.proofs.Within.{drop_read}
 use Rattle.circ_term.specs.Tree.{Tree}
 use Rattle.circ_theory.specs.Rewriting.{named}
-use Rattle.circ_theory.specs.declared.pairs.Pair.{Pair as PairOfTerms}
+use Rattle.circ_theory.specs.Pairs.{PairOfTerms}
 use Rattle.circ_proof.specs.declared.links.Chain.{Chain}
 use Rattle.circ_proof.specs.Plain.{Same_why, map_row, map_chains, row_of, plain_links, plain_chain, plain_chains}
 use Rattle.circ_proof.specs.Link.{Setting, resolved_chain}

@@ -6,7 +6,7 @@ use Rattle.circ_term.specs.Growing.{Grows}
 use Rattle.circ_term.specs.Tree.{Tree}
 use Rattle.circ_theory.specs.Theory.{Pair, pair_with, goal}
 use Rattle.circ_theory.specs.Variables.{variables_of, sorted}
-use Rattle.circ_theory.specs.declared.parts.Goal.{Goal}
+use Rattle.circ_theory.specs.Goal.{Goal}
 use Rattle.circ_proof.specs.Link.{Setting, setting}
 use Rattle.circ_nodes.specs.Named.{IsNamed, AreNamed, tree_at}
 use Rattle.circ_nodes.proofs.Located.{named_tree, tree_later, trees_later}

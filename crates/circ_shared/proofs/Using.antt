@@ -6,8 +6,8 @@ use Rattle.circ_term.specs.Tree.{Tree, at, sort_of}
 use Rattle.circ_theory.specs.Theory.{Pair, sides, goal_of, IsHidden}
 use Rattle.circ_theory.specs.Variables.{variables_of, sorted, FitVariables}
 use Rattle.circ_theory.specs.Rewriting.{from_side, to_side, by_terms, Replaces}
-use Rattle.circ_theory.specs.declared.parts.Equation.{Equation}
-use Rattle.circ_theory.specs.declared.parts.Goal.{Goal}
+use Rattle.circ_theory.specs.Goal.{Equation}
+use Rattle.circ_theory.specs.Goal.{Goal}
 use Rattle.circ_theory.specs.declared.way.Way.{Way}
 use Rattle.circ_theory.specs.declared.way.Way.TheVariants.{Forth, Back}
 use Rattle.circ_special.specs.Special.{IsSpecial}

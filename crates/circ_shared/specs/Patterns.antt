@@ -4,7 +4,7 @@ use Rattle.std.specs.List.{AllByRecursion}
 use Rattle.circ_term.specs.Tree.{Tree, Trees, Var, none, more}
 use Rattle.circ_theory.specs.Theory.{Pair, pair_with, goal}
 use Rattle.circ_theory.specs.Variables.{Variable, variables_of, sorted}
-use Rattle.circ_theory.specs.declared.parts.Goal.{Goal}
+use Rattle.circ_theory.specs.Goal.{Goal}
 use Rattle.circ_nodes.specs.Named.{AreNamed, tree_at}
 use Rattle.circ_shared.specs.declared.patterns.Sides.{Sides}
 use Rattle.circ_shared.specs.declared.patterns.Pattern.{Pattern}

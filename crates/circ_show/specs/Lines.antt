@@ -6,7 +6,7 @@ use Rattle.circ_term.specs.Tree.{Tree}
 use Rattle.circ_form.specs.declared.forms.Piece.{Piece}
 use Rattle.circ_theory.specs.declared.parts.Side.{Side}
 use Rattle.circ_theory.specs.declared.parts.Side.TheVariants.{Neither, Left, Right}
-use Rattle.circ_theory.specs.declared.parts.Equation.{Equation}
+use Rattle.circ_theory.specs.Goal.{Equation}
 use Rattle.circ_form.specs.Form.{text_of}
 use Rattle.circ_theory.specs.Signature.{Signature, Operator}
 use Rattle.circ_theory.specs.Theory.{Theory, Declared, Pair, goal_of}

@@ -2,7 +2,7 @@
 use Rattle.std.proofs.Common.{◌≡◌, ℕ, List, [], ◌++◌, map, ap, ◌∙◌}
 use Rattle.circ_term.specs.Tree.{Tree}
 use Rattle.circ_theory.specs.Theory.{Theory}
-use Rattle.circ_theory.specs.declared.parts.Goal.{Goal}
+use Rattle.circ_theory.specs.Goal.{Goal}
 use Rattle.circ_special.specs.declared.place.Place.{Place}
 use Rattle.circ_proof.specs.Rules.{State, state, ProofStep, map_step, StepsOf}
 use Rattle.circ_proof.specs.Proof.{IsEnded}

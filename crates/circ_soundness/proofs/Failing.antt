@@ -4,7 +4,7 @@ use Rattle.std.specs.List.{AllByRecursion}
 use Rattle.std.proofs.lemmas.List.{length-map}
 use Rattle.circ_theory.specs.Theory.{Theory}
 use Rattle.circ_theory.specs.Rewriting.{named}
-use Rattle.circ_theory.specs.declared.parts.Goal.{Goal}
+use Rattle.circ_theory.specs.Goal.{Goal}
 use Rattle.circ_proof.specs.Plain.{map_link}
 use Rattle.circ_proof.specs.Runs.{Runs, FailsFirst}
 use Rattle.circ_proof.proofs.Leading.{one_run}

@@ -4,8 +4,8 @@ use Rattle.std.specs.List.{AllByRecursion, Contains, slice_get}
 use Rattle.std.proofs.lemmas.Option.{same_Some}
 use Rattle.circ_term.specs.Tree.{Tree, sort_of}
 use Rattle.circ_form.specs.declared.forms.Piece.TheVariants.{Word}
-use Rattle.circ_theory.specs.declared.parts.Equation.{Equation}
-use Rattle.circ_theory.specs.declared.parts.Goal.{Goal}
+use Rattle.circ_theory.specs.Goal.{Equation}
+use Rattle.circ_theory.specs.Goal.{Goal}
 use Rattle.circ_form.specs.Form.{IsForm}
 use Rattle.circ_theory.specs.Signature.{Operator, IsWellSorted}
 use Rattle.circ_theory.specs.Theory.{Pair, pair_with, goal, goal_of, CaseList, Derivative, IsHidden, IsVisible, IsCondition, IsWellSortedGoal}

@@ -10,7 +10,7 @@ use Rattle.circ_theory.specs.Theory.{Theory, Pair, sides, goal_of, instance_pair
 use Rattle.circ_theory.specs.WellFormed.{IsWellFormed}
 use Rattle.circ_theory.specs.Derivable.{Derivable, Gives, by_same, by_symmetry, by_chain, by_premise}
 use Rattle.circ_theory.specs.Rewriting.{from_side, to_side, Replaces, by_terms}
-use Rattle.circ_theory.specs.declared.parts.Goal.{Goal}
+use Rattle.circ_theory.specs.Goal.{Goal}
 use Rattle.circ_theory.specs.declared.way.Way.{Way}
 use Rattle.circ_theory.specs.declared.way.Way.TheVariants.{Forth, Back}
 use Rattle.circ_theory.proofs.Casing.{contains_first, hidden_or_visible}

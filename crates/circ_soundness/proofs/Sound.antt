@@ -10,7 +10,7 @@ use Rattle.circ_theory.specs.Theory.{Theory, Derivative}
 use Rattle.circ_theory.specs.WellFormed.{IsWellFormed}
 use Rattle.circ_theory.specs.Experiment.{Behaves}
 use Rattle.circ_theory.specs.Fresh.{derivatives_of}
-use Rattle.circ_theory.specs.declared.parts.Goal.{Goal}
+use Rattle.circ_theory.specs.Goal.{Goal}
 use Rattle.circ_special.specs.declared.place.Place.{Place}
 use Rattle.circ_special.specs.Special.{IsPlace}
 use Rattle.circ_proof.specs.Plain.{LinkOf}

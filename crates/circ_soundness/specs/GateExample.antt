@@ -4,7 +4,7 @@ use Rattle.circ_term.specs.Tree.{Tree, Var, App, none, more}
 use Rattle.circ_theory.specs.Theory.{Theory, Pair, pair_with, goal, Derivative}
 use Rattle.circ_theory.specs.Examples.{plain_op}
 use Rattle.circ_theory.specs.declared.way.Way.TheVariants.{Forth}
-use Rattle.circ_theory.specs.declared.parts.Goal.{Goal}
+use Rattle.circ_theory.specs.Goal.{Goal}
 use Rattle.circ_proof.specs.Plain.{LinkOf, LinksOf, ChainsOf, ChainOf, Equation_link, Hypothesis_link, Assumption_link, Same_why, no_link, more_links, no_chain, more_chains}
 use Rattle.circ_proof.specs.Rules.{ProofStep, Simplify, Reduce, Derive, Done}
 use Rattle.circ_proof.specs.Proof.{GoalNames, Proof}

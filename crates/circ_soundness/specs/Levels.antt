@@ -7,7 +7,7 @@ use Rattle.circ_theory.specs.Signature.{IsWellSorted, IsSubstitution}
 use Rattle.circ_theory.specs.Theory.{Theory, Pair, instance_pair}
 use Rattle.circ_theory.specs.Derivable.{Derivable}
 use Rattle.circ_theory.specs.Experiment.{Entry, Fits, on}
-use Rattle.circ_theory.specs.declared.parts.Goal.{Goal}
+use Rattle.circ_theory.specs.Goal.{Goal}
 use Rattle.circ_special.specs.declared.place.Place.{Place}
 use Rattle.circ_special.specs.Special.{place}
 use Rattle.circ_proof.specs.Goals.{AreSortedGoals}

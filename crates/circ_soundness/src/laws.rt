@@ -4,7 +4,7 @@ ghost use Rattle.std.specs.List.{Contains};
 ghost use Rattle.circ_theory.specs.Theory.{Theory, goal};
 ghost use Rattle.circ_theory.specs.WellFormed.{IsWellFormed};
 ghost use Rattle.circ_theory.specs.Experiment.{Behaves};
-ghost use Rattle.circ_theory.specs.declared.parts.Goal.{Goal};
+ghost use Rattle.circ_theory.specs.Goal.{Goal};
 ghost use Rattle.circ_proof.specs.Proof.{Block, Proof, ProofFor};
 ghost use Rattle.circ_proof.specs.Accepted.{Accepted, Derives, FirstFail};
 ghost use Rattle.circ_theory.specs.Rewriting.{named};

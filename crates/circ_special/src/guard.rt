@@ -7,7 +7,7 @@ ghost use Rattle.circ_special.specs.Occurrences.{IsGuarded, GuardedBelow, AllGua
 ghost use Rattle.circ_special.specs.Occurrences.{IsObserved, IsObservedBy, IsHoleOf, IsHoleAt};
 ghost use Rattle.circ_special.specs.Occurrences.{Counts};
 
-use crate::fitting::{fits, is_variable};
+use crate::fitting::{fits, has_hole, is_variable};
 use crate::place::Gamma;
 use circ_term::{Kind, Term};
 use circ_theory::Theory;
@@ -171,15 +171,5 @@ impl Asked<'_> {
             return true;
         }
         self.gamma.on_path(self.root, front)
-    }
-}
-
-// Whether the hole, of this sort, is at the path.
-fn has_hole(body: &Term, path: &[u16], sort: u32) -> bool
-    ensures { IsTrue result ↔ (at body.now path.now ≡ Some (Var 0 sort)) }
-{
-    match body.at(path) {
-        Some(hole) => is_variable(hole, 0, sort),
-        None => false,
     }
 }

@@ -10,5 +10,6 @@ mod fitting;
 mod guard;
 mod place;
 
+pub use fitting::{fits, has_hole, is_variable};
 pub use guard::guarded;
 pub use place::{Gamma, Place, is_place};

@@ -75,6 +75,64 @@ fn after(tokens: &[u32], starts: &[Starts], symbol: Symbol, reached: Ends, low: 
     }
 }
 
+// Symbols up to a place, and where they may end.
+#[derive(Clone, Copy)]
+struct Front {
+    passed: usize,
+    ends: Ends,
+}
+
+// Where the symbols at the front of those from one on may end: words, and the hole behind them.
+fn front_at(
+    tokens: &[u32],
+    starts: &[Starts],
+    symbols: &[Symbol],
+    first: usize,
+    from: usize,
+) -> Front
+    requires { first ≤ length symbols.now }
+    ensures within { result.passed ≤ length symbols.now }
+    ensures leads { (j : ℕ) → MayRow tokens.now starts.now (drop first symbols.now) from j
+        → (k : ℕ) × (from ≤ k) × Has result.ends k
+        × MayRow tokens.now starts.now (drop result.passed symbols.now) k j }
+{
+    let mut place = first;
+    let mut here = from;
+    while let Step::AtWord(word) = step_at(symbols, place) {
+        if here >= tokens.len() || tokens[here] != word {
+            return Front {
+                passed: symbols.len(),
+                ends: no_ends(),
+            };
+        }
+        place += 1;
+        here += 1;
+    }
+    behind_words(starts, symbols, place, here)
+}
+
+// Where the hole may end that begins at a place of the tokens, if there is one.
+fn behind_words(starts: &[Starts], symbols: &[Symbol], place: usize, here: usize) -> Front
+    requires { place ≤ length symbols.now }
+    ensures within { result.passed ≤ length symbols.now }
+    ensures leads { (ts : List ℕ) (j : ℕ) → MayRow ts starts.now (drop place symbols.now) here j
+        → (k : ℕ) × (here ≤ k) × Has result.ends k
+        × MayRow ts starts.now (drop result.passed symbols.now) k j }
+{
+    if place < symbols.len() {
+        if let Symbol::Hole { sort, .. } = symbols[place] {
+            return Front {
+                passed: place + 1,
+                ends: ends_at(starts, sort as usize, here),
+            };
+        }
+    }
+    Front {
+        passed: place,
+        ends: with(no_ends(), here),
+    }
+}
+
 /// Where the symbols from one on may end that begin at a place.
 pub fn row_ends(
     tokens: &[u32],
@@ -87,8 +145,9 @@ pub fn row_ends(
     ensures { (j : ℕ) → MayRow tokens.now starts.now (drop first symbols.now) from j → Has result
         j }
 {
-    let mut reached = with(no_ends(), from);
-    for place in first..symbols.len() {
+    let front = front_at(tokens, starts, symbols, first, from);
+    let mut reached = front.ends;
+    for place in front.passed..symbols.len() {
         reached = after(tokens, starts, symbols[place], reached, from);
     }
     reached

@@ -6,7 +6,7 @@ use Rattle.circ_term.specs.Order.{is_same}
 use Rattle.circ_term.proofs.Order.{same_here, same_itself}
 use Rattle.circ_theory.specs.Theory.{Theory, Pair}
 use Rattle.circ_theory.specs.Pairs.{plain_pair}
-use Rattle.circ_theory.specs.declared.pairs.Pair.{Pair as PairOfTerms}
+use Rattle.circ_theory.specs.Pairs.{PairOfTerms}
 use Rattle.circ_proof.specs.Plain.{Same_why, Split_why, WhysOf, no_why, more_whys}
 use Rattle.circ_rewrite.specs.declared.parts.Rule.{Rule}
 use Rattle.circ_plain_search.specs.Joining.{Stop, and_then}

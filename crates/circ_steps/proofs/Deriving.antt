@@ -18,7 +18,7 @@ use Rattle.circ_theory.specs.Theory.{IsHidden}
 use Rattle.circ_theory.specs.Theory.{IsWellSortedGoal}
 use Rattle.circ_theory.specs.WellFormed.{IsWellFormed}
 use Rattle.circ_theory.specs.Fresh.{fresh_in, given_parameters, parameter_sorts, variables_from, derivatives_of, FitDerivative}
-use Rattle.circ_theory.specs.declared.parts.Goal.{Goal}
+use Rattle.circ_theory.specs.Goal.{Goal}
 use Rattle.circ_special.specs.declared.place.Place.{Place}
 use Rattle.circ_proof.specs.Rules.{State, state, Derive, StepOf, derived_goal, derivatives_on}
 use Rattle.circ_proof.proofs.Derivatives.{if_some_at, some_if_at, from_number}

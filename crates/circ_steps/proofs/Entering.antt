@@ -7,9 +7,9 @@ use Rattle.circ_term.specs.Tree.{Tree}
 use Rattle.circ_term.proofs.Within.{drop_read}
 use Rattle.circ_theory.specs.Theory.{Pair, pair_with, goal, goal_of}
 use Rattle.circ_theory.specs.Pairs.{plain_pair}
-use Rattle.circ_theory.specs.declared.pairs.Pair.{Pair as PairOfTerms}
-use Rattle.circ_theory.specs.declared.parts.Equation.{Equation}
-use Rattle.circ_theory.specs.declared.parts.Goal.{Goal}
+use Rattle.circ_theory.specs.Pairs.{PairOfTerms}
+use Rattle.circ_theory.specs.Goal.{Equation}
+use Rattle.circ_theory.specs.Goal.{Goal}
 use Rattle.circ_nodes.specs.Named.{IsNamed, tree_at}
 use Rattle.circ_nodes.proofs.Located.{named_tree}
 use Rattle.circ_nodes.proofs.Numbers.{named_below, named_later}

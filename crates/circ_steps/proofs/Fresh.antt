@@ -6,7 +6,7 @@ use Rattle.circ_term.specs.Tree.{Tree, Trees, Var, App, none, more}
 use Rattle.circ_theory.specs.Theory.{Pair}
 use Rattle.circ_theory.specs.Variables.{Variable, is_variable, seen, seen_in, seen_in_all, seen_in_pairs, variables_of, is_before, put_in_order, sorted}
 use Rattle.circ_theory.specs.Fresh.{above, all_above, above_pairs, fresh_in}
-use Rattle.circ_theory.specs.declared.parts.Goal.{Goal}
+use Rattle.circ_theory.specs.Goal.{Goal}
 use Rattle.circ_steps.specs.Derivatives.{above_variables}
 
 above_push : (v : Variable) (vs : List Variable) → above_variables (vs ++ v ∷ []) ≡ max (above_variables vs) (v.number + 1)

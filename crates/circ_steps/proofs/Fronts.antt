@@ -5,7 +5,7 @@ use Rattle.std.proofs.lemmas.List.{length-map}
 use Rattle.circ_term.specs.Growing.{Grows}
 use Rattle.circ_term.specs.Tree.{Tree}
 use Rattle.circ_theory.specs.Theory.{goal}
-use Rattle.circ_theory.specs.declared.parts.Goal.{Goal}
+use Rattle.circ_theory.specs.Goal.{Goal}
 use Rattle.circ_proof.specs.Rules.{state}
 use Rattle.circ_rules.specs.Simplifying.{put_sides}
 use Rattle.circ_shared.specs.declared.patterns.Sides.{Sides}

@@ -6,7 +6,7 @@ use Rattle.circ_term.specs.Growing.{Grows}
 use Rattle.circ_term.specs.Tree.{Tree, App, none, sort_of}
 use Rattle.circ_theory.specs.Theory.{Pair, pair_with, goal}
 use Rattle.circ_theory.specs.Rewriting.{named}
-use Rattle.circ_theory.specs.declared.parts.Goal.{Goal}
+use Rattle.circ_theory.specs.Goal.{Goal}
 use Rattle.circ_proof.specs.Goals.{with_cond}
 use Rattle.circ_proof.specs.Rules.{state}
 use Rattle.circ_nodes.specs.Named.{IsNamed, tree_at}

@@ -9,7 +9,7 @@ use Rattle.circ_term.specs.declared.fault.TermFault.{TermFault}
 use Rattle.circ_theory.specs.Theory.{Theory, Derivative}
 use Rattle.circ_theory.specs.Variables.{Variable, numbered}
 use Rattle.circ_theory.specs.Fresh.{fresh_in, parameter_sorts, derivatives_of}
-use Rattle.circ_theory.specs.declared.parts.Goal.{Goal}
+use Rattle.circ_theory.specs.Goal.{Goal}
 use Rattle.circ_proof.specs.Rules.{derived_goal, derivatives_on}
 use Rattle.circ_nodes.specs.Named.{IsNamed, AreNamed}
 use Rattle.circ_shared.specs.Patterns.{variable_trees}

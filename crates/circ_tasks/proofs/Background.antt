@@ -5,7 +5,7 @@ use Rattle.std.specs.Option.{option_map, option_map_or}
 use Rattle.std.proofs.lemmas.Bool.{ltb-true, ltb-false}
 use Rattle.std.proofs.lemmas.List.{map-append}
 use Rattle.circ_term.specs.Tree.{Tree}
-use Rattle.circ_theory.specs.declared.parts.Goal.{Goal}
+use Rattle.circ_theory.specs.Goal.{Goal}
 use Rattle.circ_expansion.specs.Followed.{History, Open, goal_in, no_goal, Followed as History_in}
 use Rattle.circ_expansion.specs.Expand.{followed_goals, followed_at, no_followed}
 use Rattle.circ_book.specs.Histories.{history_at, history_below, history_with}

@@ -8,7 +8,7 @@ use Rattle.circ_term.specs.Tree.{Tree, sort_of}
 use Rattle.circ_term.specs.Limits.{first_limit, Names}
 use Rattle.circ_term.specs.declared.fault.TermFault.{TermFault}
 use Rattle.circ_theory.specs.Theory.{Theory}
-use Rattle.circ_theory.specs.declared.parts.Goal.{Goal}
+use Rattle.circ_theory.specs.Goal.{Goal}
 use Rattle.circ_proof.specs.Plain.{ChainOf, WhyOf, plain_chain, plain_links}
 use Rattle.circ_proof.specs.Link.{Setting, resolved_chain, resolved_links}
 use Rattle.circ_proof.specs.declared.links.Link.{Link}

@@ -5,7 +5,7 @@ use Rattle.std.specs.Option.{option_map_or}
 use Rattle.circ_term.specs.Tree.{Tree}
 use Rattle.circ_term.specs.Limits.{Names}
 use Rattle.circ_term.specs.declared.fault.TermFault.{TermFault}
-use Rattle.circ_theory.specs.declared.parts.Goal.{Goal}
+use Rattle.circ_theory.specs.Goal.{Goal}
 use Rattle.circ_theory.specs.Pairs.{plain_pair}
 use Rattle.circ_proof.specs.Link.{Setting, setting}
 use Rattle.circ_expansion.specs.Followed.{no_goal}

@@ -5,7 +5,8 @@ use Rattle.std.proofs.lemmas.Bool.{eqb-true, and_parts}
 use Rattle.circ_term.specs.Tree.{Tree, sort_of}
 use Rattle.circ_term.specs.Substitution.{Substitution}
 use Rattle.circ_theory.specs.Signature.{Signature, IsSort, IsWellSorted, IsSubstitution}
-use Rattle.circ_theory.specs.Theory.{Theory, Pair}
+use Rattle.circ_pairs.specs.Pair.{Pair}
+use Rattle.circ_theory.specs.Theory.{Theory}
 use Rattle.circ_theory.specs.WellFormed.{IsWellFormed}
 use Rattle.circ_theory.specs.Derivable.{Derivable, by_same}
 use Rattle.circ_theory.specs.Experiment.{Entry, plug, derived, Fits, on, BehavesFrom}

@@ -12,9 +12,10 @@ use Rattle.std.proofs.lemmas.Cmp.{nat_cmp_total, then_total, on_total}
 use Rattle.std.proofs.lemmas.List.Folds.{list_any-append}
 use Rattle.circ_term.specs.Tree.{Tree, Trees, Var, App, none, more}
 use Rattle.circ_term.specs.Subst.{Bound, bound_cmp, found, substitution_of}
-use Rattle.circ_theory.specs.declared.parts.Goal.{Goal}
-use Rattle.circ_theory.specs.Theory.{Pair, sides}
-use Rattle.circ_theory.specs.Variables.{Variable, is_variable, seen, seen_in, seen_in_all, seen_in_pairs, variables_of, is_before, put_in_order, sorted}
+use Rattle.circ_pairs.specs.declared.goals.Goal.{Goal}
+use Rattle.circ_pairs.specs.Pair.{Pair}
+use Rattle.circ_pairs.specs.Goal.{sides}
+use Rattle.circ_pairs.specs.Variables.{Variable, is_variable, seen, seen_in, seen_in_all, seen_in_pairs, variables_of, is_before, put_in_order, sorted}
 
 -- ---- the order of variables
 

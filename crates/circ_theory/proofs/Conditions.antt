@@ -8,16 +8,17 @@ use Rattle.std.proofs.lemmas.List.Folds.{list_any-append}
 use Rattle.indexmap.specs.IndexSet.{insert_key}
 use Rattle.circ_term.specs.Tree.{sort_of}
 use Rattle.circ_theory.specs.declared.fault.TheoryFault.TheVariants.{NotVisible}
-use Rattle.circ_theory.specs.declared.parts.Equation.{Equation}
+use Rattle.circ_pairs.specs.declared.goals.Equation.{Equation}
 use Rattle.circ_theory.specs.Limits.{equation_limit, condition_limit}
-use Rattle.circ_theory.specs.Theory.{Theory, Pair, AreConditions, AreWellSortedPairs, HasNoConditions}
+use Rattle.circ_pairs.specs.Pair.{Pair}
+use Rattle.circ_theory.specs.Theory.{Theory, AreConditions, AreWellSortedPairs, HasNoConditions}
 use Rattle.circ_theory.specs.Adding.{count_fault, is_hidden, hidden_condition, equation_fault}
-use Rattle.circ_theory.specs.Observing.{has_condition_of}
-use Rattle.circ_theory.specs.Rule.{is_conditional}
+use Rattle.circ_pairs.specs.Pair.{has_condition_of}
+use Rattle.circ_pairs.specs.Rule.{is_conditional}
 use Rattle.circ_theory.proofs.Faults.{option_or_none, option_map_none, find_none, room_left}
 use Rattle.circ_theory.proofs.Casing.{hidden_tells, contains_first}
 use Rattle.circ_theory.proofs.Weakening.{in_rest}
-use Rattle.circ_theory.proofs.Filling.{any_inserted}
+use Rattle.circ_pairs.proofs.Filling.{any_inserted}
 use Rattle.circ_theory.proofs.Observers.{short_by}
 
 -- an equation with these conditions may be added

@@ -7,7 +7,8 @@ use Rattle.circ_term.specs.Tree.{Tree, Trees, App, none, more, sort_of, list_of,
 use Rattle.circ_term.proofs.Trees.{trees_of-list_of}
 use Rattle.circ_term.proofs.Paths.{Deeper, deeper}
 use Rattle.circ_theory.specs.Signature.{IsWellSorted, HaveSorts}
-use Rattle.circ_theory.specs.Theory.{Theory, Pair}
+use Rattle.circ_pairs.specs.Pair.{Pair}
+use Rattle.circ_theory.specs.Theory.{Theory}
 use Rattle.circ_theory.proofs.Sorting.{arg_well_sorted, put_well_sorted, replaced_sorted}
 use Rattle.circ_theory.specs.Derivable.{Derivable, by_same, by_operator, DerivableAll, no_args, more_args}
 

@@ -13,13 +13,14 @@ use Rattle.circ_term.proofs.Instances.{instance-same}
 use Rattle.circ_theory.specs.Signature.{Signature, IsWellSorted, IsSubstitution}
 use Rattle.circ_theory.specs.Limits.{parameter_limit}
 use Rattle.circ_theory.specs.Theory.{Theory, Derivative}
-use Rattle.circ_theory.specs.Variables.{Variable, occurrences, all_occurrences, AreNumberedFrom, numbered, given}
+use Rattle.circ_pairs.specs.Variables.{Variable, occurrences, all_occurrences, AreNumberedFrom, numbered, given}
 use Rattle.circ_theory.specs.WellFormed.{IsDerivative, IsWellFormed}
 use Rattle.circ_theory.specs.Experiment.{plug, derived}
-use Rattle.circ_theory.specs.Observing.{is_hole, is_parameter}
-use Rattle.circ_theory.specs.Fresh.{numbered_from, given_parameters, parameter_sorts, variables_from, FitDerivative, FitSome}
+use Rattle.circ_pairs.specs.Slots.{is_hole, is_parameter}
+use Rattle.circ_pairs.specs.Fresh.{variables_from}
+use Rattle.circ_theory.specs.Fresh.{numbered_from, given_parameters, parameter_sorts, FitDerivative, FitSome}
 use Rattle.circ_theory.proofs.Lists.{all_by}
-use Rattle.circ_theory.proofs.Numbering.{numbered-sorts}
+use Rattle.circ_pairs.proofs.Numbering.{numbered-sorts}
 use Rattle.circ_theory.proofs.Instances.{sort_of-instance_by, instance_well_sorted}
 use Rattle.circ_theory.proofs.Rewriting.{contains_at}
 use Rattle.circ_theory.proofs.Behaviour.{plug_substitution}

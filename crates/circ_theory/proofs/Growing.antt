@@ -3,12 +3,14 @@ use Rattle.std.proofs.Common.{◌≡◌, ◌<◌, ◌≤◌, ◌+◌, ℕ, List,
 use Rattle.std.specs.List.{slice_get, Contains}
 use Rattle.std.proofs.lemmas.List.Elements.{Contains-push_cases}
 use Rattle.circ_term.specs.Tree.{Tree, Trees, Var, App, none, more, sort_of}
-use Rattle.circ_theory.specs.declared.parts.Equation.{Equation}
-use Rattle.circ_theory.specs.declared.parts.Goal.{Goal}
+use Rattle.circ_pairs.specs.declared.goals.Equation.{Equation}
+use Rattle.circ_pairs.specs.declared.goals.Goal.{Goal}
 use Rattle.circ_theory.specs.Limits.{sort_limit, variable_limit, operator_limit, equation_limit, condition_limit}
 use Rattle.circ_theory.specs.Signature.{Signature, Operator, IsSort, IsWellSorted, HaveSorts}
-use Rattle.circ_theory.specs.Theory.{Theory, Pair, Declared, Derivative, CaseList, IsHidden, IsWellSortedPair, IsWellSortedGoal, goal_of, sides}
-use Rattle.circ_theory.specs.Variables.{IsInOrder}
+use Rattle.circ_pairs.specs.Pair.{Pair}
+use Rattle.circ_pairs.specs.Goal.{goal_of, sides}
+use Rattle.circ_theory.specs.Theory.{Theory, Declared, Derivative, CaseList, IsHidden, IsWellSortedPair, IsWellSortedGoal}
+use Rattle.circ_pairs.specs.Variables.{IsInOrder}
 use Rattle.circ_theory.specs.Operators.{IsOperator}
 use Rattle.circ_theory.specs.WellFormed.{IsDerivative, IsCaseList, IsWellFormed}
 use Rattle.circ_theory.specs.Adding.{with_sort, with_op, with_equation}

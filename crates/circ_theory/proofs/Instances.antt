@@ -6,7 +6,8 @@ use Rattle.circ_term.specs.Tree.{Tree, Trees, Var, App, none, more, sort_of}
 use Rattle.circ_term.specs.Substitution.{Substitution, instance, instances, composed}
 use Rattle.circ_term.proofs.Instances.{instance-instance}
 use Rattle.circ_theory.specs.Signature.{Signature, IsSort, IsWellSorted, HaveSorts, IsSubstitution}
-use Rattle.circ_theory.specs.Theory.{Theory, Pair, instance_pair, IsWellSortedPair}
+use Rattle.circ_pairs.specs.Pair.{Pair, instance_pair}
+use Rattle.circ_theory.specs.Theory.{Theory, IsWellSortedPair}
 use Rattle.circ_theory.specs.Derivable.{Derivable, by_same, by_symmetry, by_chain, by_operator, by_equation, by_premise, by_cases, DerivableAll}
 use Rattle.circ_theory.specs.Derivable.{no_args, more_args}
 

@@ -13,7 +13,6 @@ pub mod Keys
 pub mod Declaring
 pub mod Faults
 pub mod Sorted
-pub mod Gathering
 pub mod Distinct
 pub mod Filling
 pub mod Ruling
@@ -22,5 +21,4 @@ pub mod Noting
 pub mod Linear
 pub mod Observers
 pub mod Conditions
-pub mod Ground
 pub mod Derived

@@ -8,9 +8,10 @@ use Rattle.std.proofs.lemmas.List.Elements.{filter-append}
 use Rattle.std.proofs.lemmas.List.Folds.{list_any-append}
 use Rattle.circ_term.specs.Tree.{Tree, Trees, Var, App, none, more, size_of, sizes_of}
 use Rattle.circ_theory.specs.Signature.{Signature, IsSort, IsWellSorted, HaveSorts}
-use Rattle.circ_theory.specs.Variables.{Variable, is_variable, seen, occurrences, all_occurrences, AreNumberedFrom}
-use Rattle.circ_theory.specs.Observing.{is_hole, is_parameter, holes_in, parameters_in, first_repeated, first_or_zero, AreParametersInOrder}
-use Rattle.circ_theory.proofs.Ruling.{all_seen, seen-occurrences}
+use Rattle.circ_pairs.specs.Variables.{Variable, is_variable, seen, occurrences, all_occurrences, AreNumberedFrom}
+use Rattle.circ_pairs.specs.Slots.{is_hole, is_parameter, holes_in, parameters_in, first_repeated, AreParametersInOrder}
+use Rattle.circ_theory.specs.Observing.{first_or_zero}
+use Rattle.circ_pairs.proofs.Ruling.{all_seen, seen-occurrences}
 
 -- no item stands again
 pub record IsOnce (n : ℕ) (ns : List ℕ) : Type 0 where

@@ -8,6 +8,7 @@ use Rattle.std.proofs.lemmas.Grind.{common_steps}
 use Rattle.indexmap.specs.IndexMap.{insert_entry}
 use Rattle.indexmap.specs.IndexSet.{insert_key}
 use Rattle.std.specs.Cmp.Lexicographic.{pointwise}
+pub use Rattle.circ_pairs.proofs.Lists.{list_any-map}
 
 pub all_push : {X : Type 0} (P : X → Type 0) (xs : List X) (x : X) → AllByRecursion P xs → P x → AllByRecursion P (xs ++ x ∷ [])
 all_push P [] x a p = (p, tt)
@@ -83,10 +84,6 @@ insert_entry-last eq (e ∷ es) k v h = go (λ g. insert_entry-last eq es k v g)
         → (if eq k e.0 then (e.0, v) ∷ es else e ∷ insert_entry eq es k v) ≡ e ∷ (es ++ (k, v) ∷ [])
     go ih true f = absurd (let z = rw f at h in cc)
     go ih false f = rw f (ap (λ l. e ∷ l) (ih (rw f at h)))
-
-pub list_any-map : {X Y : Type 0} (p : Y → Bool) (f : X → Y) (xs : List X) → list_any p (map f xs) ≡ list_any (λ x. p (f x)) xs
-list_any-map p f [] = refl
-list_any-map p f (x ∷ xs) = ap (λ b. p (f x) || b) (list_any-map p f xs)
 
 -- a new name goes last
 pub name_last : {K : Type 0} (f : K → List ℕ) (ks : List K) (k : K) (name : List ℕ) → f k ≡ name → position (pointwise nat_eq name) (map f ks) ≡ None

@@ -1,6 +1,6 @@
 -- Numbers that are kept under words.
 use Rattle.std.proofs.Common.{◌≡◌, ℕ, suc, ◌+◌, length, Bool, true, false, ◌&&◌, nat_eq, if◌then◌else◌, List, [], ◌∷◌, ◌++◌, Vec, Option, Some, None, Result, Ok}
-use Rattle.std.proofs.Common.{Err, OnErr, refl, ap, sym, ◌∙◌, arith}
+use Rattle.std.proofs.Common.{Err, OnOk, OnErr, refl, ap, sym, ◌∙◌, arith}
 use Rattle.std.specs.Cmp.Lexicographic.{pointwise, bytes_decides}
 use Rattle.std.proofs.lemmas.Bool.{eqb-true, eq-eqb}
 use Rattle.std.specs.Map.{lookup, set_value}
@@ -10,7 +10,7 @@ use Rattle.circ_form.specs.Form.{first_word}
 use Rattle.circ_theory.specs.Signature.{Signature, Operator}
 use Rattle.circ_theory.specs.declared.overloads.Overloads.{Overloads}
 use Rattle.circ_theory.specs.Operators.{places_from, ops_by_word, ops_by_word_and_sort, first_sort}
-use Rattle.circ_theory.specs.Inside.{kept_with, kept_under, kept_under_both, IsNoted, IsKeptSo}
+use Rattle.circ_theory.specs.Inside.{kept_at, kept_with, kept_under, kept_under_both, IsNoted, IsKeptSo}
 
 places_push : {X : Type 0} (p : X → Bool) (k : ℕ) (xs : List X) (x : X)
     → places_from p k (xs ++ x ∷ []) ≡ (if p x then places_from p k xs ++ (k + length xs) ∷ [] else places_from p k xs)
@@ -161,3 +161,58 @@ with_same es new word x here both all by_sort = record {
   words = unchanged (λ k. k.items) (pointwise nat_eq) bytes_decides (λ o. o.all.items) [] es new word x.all.items here all;
   both = λ w s. unchanged (λ k. k.items) (pointwise nat_eq) bytes_decides (λ o. kept_with o s) [] es new word (kept_with x s) (both s) (by_sort s) w;
 }
+
+-- an operator was noted among those of a word, or not
+module _ {A X E : Type 0} (r : Result X E) (es new : List (Vec ℕ A × Overloads)) (word : List ℕ) (old x : Overloads)
+    (found : lookup (λ k. pointwise nat_eq word k.items) es ≡ Some old) (is : new ≡ set_value (λ k. pointwise nat_eq word k.items) es x) where
+  here : (w : List ℕ) → kept_under new w ≡ (if pointwise nat_eq w word then x.all.items else kept_under es w)
+  here w = ap (λ es. kept_under es w) is ∙ kept-set (λ k. k.items) (pointwise nat_eq) bytes_decides (λ o. o.all.items) [] word x old w es found
+
+  both : (s : Option ℕ) (w : List ℕ) → kept_under_both new w s ≡ (if pointwise nat_eq w word then kept_with x s else kept_under_both es w s)
+  both s w = ap (λ es. kept_under_both es w s) is ∙ kept-set (λ k. k.items) (pointwise nat_eq) bytes_decides (λ o. kept_with o s) [] word x old w es found
+
+  was : kept_under es word ≡ old.all.items
+  was = ap (λ o. option_map_or (λ v. v.all.items) o []) found
+
+  was_both : (s : Option ℕ) → kept_under_both es word s ≡ kept_with old s
+  was_both s = ap (λ o. option_map_or (λ v. kept_with v s) o []) found
+
+  pub noted_more : (sort : Option ℕ) (n : ℕ) → OnOk r (x.all.items ≡ old.all.items ++ n ∷ [])
+      → OnOk r ((s : Option ℕ) → kept_with x s ≡ more_if (option_eq nat_eq s sort) n (kept_with old s)) → OnOk r (IsNoted es new word sort n)
+  noted_more sort n all by_sort = go r all by_sort
+    where
+      go : (r : Result X E) → OnOk r (x.all.items ≡ old.all.items ++ n ∷ [])
+          → OnOk r ((s : Option ℕ) → kept_with x s ≡ more_if (option_eq nat_eq s sort) n (kept_with old s)) → OnOk r (IsNoted es new word sort n)
+      go (Err e) a b = tt
+      go (Ok v) a b = with_more es new word x sort n here both (a ∙ ap (λ ns. ns ++ n ∷ []) (sym was)) (λ s. b s ∙ ap (more_if (option_eq nat_eq s sort) n) (sym (was_both s)))
+
+  pub noted_same : OnErr r (x.all.items ≡ old.all.items) → OnErr r ((s : Option ℕ) → kept_with x s ≡ kept_with old s) → OnErr r (IsKeptSo es new)
+  noted_same all by_sort = go r all by_sort
+    where
+      go : (r : Result X E) → OnErr r (x.all.items ≡ old.all.items) → OnErr r ((s : Option ℕ) → kept_with x s ≡ kept_with old s) → OnErr r (IsKeptSo es new)
+      go (Ok v) a b = tt
+      go (Err e) a b = with_same es new word x here both (a ∙ sym was) (λ s. b s ∙ sym (was_both s))
+
+-- a number was kept among those of a sort, or not
+module _ {B X E : Type 0} (r : Result X E) (es new : List (Option ℕ × Vec ℕ B)) (sort : Option ℕ) (old x : Vec ℕ B)
+    (found : lookup (option_eq nat_eq sort) es ≡ Some old) (is : new ≡ set_value (option_eq nat_eq sort) es x) where
+  at_sort : (s : Option ℕ) → kept_at new s ≡ (if option_eq nat_eq s sort then x.items else kept_at es s)
+  at_sort s = ap (λ es. kept_at es s) is ∙ kept-set (λ k. k) (option_eq nat_eq) sorts_decide (λ v. v.items) [] sort x old s es found
+
+  was_kept : kept_at es sort ≡ old.items
+  was_kept = ap (λ o. option_map_or (λ v. v.items) o []) found
+
+  pub sort_more : (n : ℕ) → OnOk r (x.items ≡ old.items ++ n ∷ []) → OnOk r ((s : Option ℕ) → kept_at new s ≡ more_if (option_eq nat_eq s sort) n (kept_at es s))
+  sort_more n all = go r all
+    where
+      go : (r : Result X E) → OnOk r (x.items ≡ old.items ++ n ∷ []) → OnOk r ((s : Option ℕ) → kept_at new s ≡ more_if (option_eq nat_eq s sort) n (kept_at es s))
+      go (Err e) a = tt
+      go (Ok v) a =
+          changed (λ k. k) (option_eq nat_eq) sorts_decide (λ v. v.items) [] es new sort x.items (λ ns. ns ++ n ∷ []) at_sort (a ∙ ap (λ ns. ns ++ n ∷ []) (sym was_kept))
+
+  pub sort_same : OnErr r (x.items ≡ old.items) → OnErr r ((s : Option ℕ) → kept_at new s ≡ kept_at es s)
+  sort_same all = go r all
+    where
+      go : (r : Result X E) → OnErr r (x.items ≡ old.items) → OnErr r ((s : Option ℕ) → kept_at new s ≡ kept_at es s)
+      go (Ok v) a = tt
+      go (Err e) a = unchanged (λ k. k) (option_eq nat_eq) sorts_decide (λ v. v.items) [] es new sort x.items at_sort (a ∙ sym was_kept)

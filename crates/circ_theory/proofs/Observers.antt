@@ -14,13 +14,17 @@ use Rattle.circ_theory.specs.declared.fault.TheoryFault.{TheoryFault}
 use Rattle.circ_theory.specs.declared.fault.TheoryFault.TheVariants.{Twice, UnknownSort, IllSorted, NotLinear, NoConstant, NotVisible, NowHidden, Limit}
 use Rattle.circ_theory.specs.Limits.{derivative_limit, parameter_limit, constant_limit}
 use Rattle.circ_theory.specs.Signature.{Signature, Operator, IsWellSorted}
-use Rattle.circ_theory.specs.declared.parts.Equation.{Equation}
-use Rattle.circ_theory.specs.Theory.{Theory, Pair, Derivative, CaseList, IsVisible, goal_of}
+use Rattle.circ_pairs.specs.declared.goals.Equation.{Equation}
+use Rattle.circ_pairs.specs.Pair.{Pair}
+use Rattle.circ_pairs.specs.Goal.{goal_of}
+use Rattle.circ_theory.specs.Theory.{Theory, Derivative, CaseList, IsVisible}
 use Rattle.circ_theory.specs.Adding.{is_no_sort}
 use Rattle.circ_theory.specs.WellFormed.{IsDerivative, IsCaseList, IsWellFormed}
-use Rattle.circ_theory.specs.Observing.{holes_in, parameters_in, first_repeated, first_or_zero, derivative_of, AreParametersInOrder, cases_of}
+use Rattle.circ_pairs.specs.Slots.{holes_in, parameters_in, first_repeated, AreParametersInOrder}
+use Rattle.circ_theory.specs.Observing.{first_or_zero, derivative_of, cases_of}
 use Rattle.circ_theory.specs.Observing.{is_hidden, hole_fault, now_hidden, long_fault, derivative_fault, with_derivative, is_constant, twice_listed}
-use Rattle.circ_theory.specs.Observing.{no_constants, cases_fault, case_list, with_cases, has_condition_of, is_condition_sort}
+use Rattle.circ_pairs.specs.Pair.{has_condition_of}
+use Rattle.circ_theory.specs.Observing.{no_constants, cases_fault, case_list, with_cases, is_condition_sort}
 use Rattle.circ_theory.proofs.Lists.{map-push}
 use Rattle.circ_theory.proofs.Faults.{option_or_none, option_map_none, only_if, not_false, known_sort, find_none, room_left}
 use Rattle.circ_theory.proofs.Growing.{length-push, case_list_stays, goal_stays, same_hidden}

@@ -8,16 +8,18 @@ use Rattle.std.proofs.lemmas.Option.{same_Some, slice_get_within, slice_get_read
 use Rattle.circ_term.specs.Tree.{Tree, Var, sort_of}
 use Rattle.circ_term.specs.Substitution.{Substitution, instance}
 use Rattle.circ_theory.specs.Signature.{Signature, IsSort, IsWellSorted, IsSubstitution}
-use Rattle.circ_theory.specs.declared.parts.Goal.{Goal}
-use Rattle.circ_theory.specs.Theory.{Theory, Pair, sides, goal_of, IsEquation, listed, IsWellSortedPair}
-use Rattle.circ_theory.specs.Variables.{Variable, sorts_of, FitVariables, given}
+use Rattle.circ_pairs.specs.declared.goals.Goal.{Goal}
+use Rattle.circ_pairs.specs.Pair.{Pair}
+use Rattle.circ_pairs.specs.Goal.{sides, goal_of}
+use Rattle.circ_theory.specs.Theory.{Theory, IsEquation, listed, IsWellSortedPair}
+use Rattle.circ_pairs.specs.Variables.{Variable, sorts_of, FitVariables, given}
 use Rattle.circ_theory.specs.Derivable.{Derivable, by_equation, by_symmetry}
 use Rattle.circ_theory.specs.WellFormed.{IsWellFormed}
 use Rattle.circ_theory.proofs.Instances.{instance_well_sorted}
 use Rattle.circ_theory.proofs.Sorting.{sorted_to, sort_instances}
 use Rattle.circ_theory.proofs.Congruence.{KeepsDerivable, replaced_keeps}
 use Rattle.circ_theory.specs.Rewriting.{from_side, to_side, Replaces, named}
-use Rattle.circ_theory.specs.declared.parts.Equation.{Equation}
+use Rattle.circ_pairs.specs.declared.goals.Equation.{Equation}
 use Rattle.circ_theory.specs.declared.way.Way.{Way}
 use Rattle.circ_theory.specs.declared.way.Way.TheVariants.{Forth, Back}
 

@@ -8,7 +8,8 @@ use Rattle.circ_term.proofs.Trees.{trees_of-list_of}
 use Rattle.circ_term.specs.Substitution.{Substitution, instance}
 use Rattle.circ_term.proofs.Paths.{Down, down, Deeper, deeper}
 use Rattle.circ_theory.specs.Signature.{Signature, IsWellSorted, HaveSorts, IsSubstitution}
-use Rattle.circ_theory.specs.Theory.{Theory, Pair, IsWellSortedPair}
+use Rattle.circ_pairs.specs.Pair.{Pair}
+use Rattle.circ_theory.specs.Theory.{Theory, IsWellSortedPair}
 use Rattle.circ_theory.specs.Rewriting.{from_side, to_side}
 use Rattle.circ_theory.specs.declared.way.Way.{Way}
 use Rattle.circ_theory.specs.declared.way.Way.TheVariants.{Forth, Back}

@@ -3,7 +3,8 @@ use Rattle.std.specs.Prelude.{◌≡◌, ◌⊎◌, zero, suc, List, ◌∷◌}
 use Rattle.std.specs.List.{Contains}
 use Rattle.std.proofs.Common.{inl, inr, arith}
 use Rattle.circ_term.specs.Tree.{Tree, Trees}
-use Rattle.circ_theory.specs.Theory.{Theory, Pair, Within}
+use Rattle.circ_pairs.specs.Pair.{Pair, Within}
+use Rattle.circ_theory.specs.Theory.{Theory}
 use Rattle.circ_theory.specs.Derivable.{Derivable, by_same, by_symmetry, by_chain, by_operator, by_equation, by_premise, by_cases, is_case, Gives}
 use Rattle.circ_theory.specs.Derivable.{DerivableAll, no_args, more_args}
 

@@ -5,12 +5,13 @@ use Rattle.std.specs.Option.{option_map, option_or, option_and_then}
 use Rattle.std.specs.Cmp.Lexicographic.{pointwise}
 use Rattle.circ_term.specs.Tree.{Tree, App, sort_of, trees_of}
 use Rattle.circ_form.specs.declared.forms.Piece.{Piece}
-use Rattle.circ_theory.specs.declared.parts.Equation.{Equation}
+use Rattle.circ_pairs.specs.declared.goals.Equation.{Equation}
 use Rattle.circ_theory.specs.declared.fault.TheoryFault.{TheoryFault}
 use Rattle.circ_theory.specs.declared.fault.TheoryFault.TheVariants.{Twice, UnknownSort, IllSorted, NotVisible, Limit, Memory}
 use Rattle.circ_theory.specs.Limits.{sort_limit, variable_limit, operator_limit, equation_limit, argument_limit, condition_limit}
 use Rattle.circ_theory.specs.Signature.{Signature, Operator}
-use Rattle.circ_theory.specs.Theory.{Theory, Pair, declared}
+use Rattle.circ_pairs.specs.Pair.{Pair}
+use Rattle.circ_theory.specs.Theory.{Theory, declared}
 use Rattle.circ_form.specs.Form.{is_same_piece}
 use Rattle.circ_theory.specs.Operators.{is_same_operator, is_ill_sorted}
 

@@ -6,9 +6,9 @@ use Rattle.circ_term.specs.Code.{tree_code}
 use Rattle.circ_form.specs.declared.forms.Piece.{Piece}
 use Rattle.circ_theory.specs.declared.parts.Side.{Side}
 use Rattle.circ_theory.specs.declared.parts.Side.TheVariants.{Neither, Left, Right}
-use Rattle.circ_theory.specs.declared.parts.Equation.{Equation}
+use Rattle.circ_pairs.specs.declared.goals.Equation.{Equation}
 use Rattle.circ_form.specs.Form.{form_code}
-use Rattle.circ_theory.specs.Pair.{Pair, pairs_code}
+use Rattle.circ_pairs.specs.Pair.{Pair, pairs_code}
 use Rattle.circ_theory.specs.Signature.{Signature, Operator}
 use Rattle.circ_theory.specs.Theory.{Theory, Derivative, CaseList, Declared}
 

@@ -4,8 +4,9 @@ use Rattle.std.specs.List.{Contains}
 use Rattle.circ_term.specs.Tree.{Tree, Trees, App, none, more, sort_of}
 use Rattle.circ_term.specs.Substitution.{Substitution, instance}
 use Rattle.circ_theory.specs.Signature.{IsWellSorted, IsSubstitution}
-use Rattle.circ_theory.specs.declared.parts.Goal.{Goal}
-use Rattle.circ_theory.specs.Theory.{Theory, Pair, CaseList, IsEquation, IsWellSortedPair}
+use Rattle.circ_pairs.specs.declared.goals.Goal.{Goal}
+use Rattle.circ_pairs.specs.Pair.{Pair}
+use Rattle.circ_theory.specs.Theory.{Theory, CaseList, IsEquation, IsWellSortedPair}
 
 -- the term u is the constant c of the case list
 abbrev pub is_case : Tree → CaseList → ℕ → Pair

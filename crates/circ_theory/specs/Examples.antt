@@ -5,8 +5,9 @@ use Rattle.circ_term.specs.Substitution.{Substitution}
 use Rattle.circ_form.specs.declared.forms.Piece.TheVariants.{Word}
 use Rattle.circ_theory.specs.declared.parts.Side.TheVariants.{Neither}
 use Rattle.circ_theory.specs.Signature.{Operator}
-use Rattle.circ_theory.specs.declared.parts.Goal.{Goal}
-use Rattle.circ_theory.specs.Theory.{Theory, goal}
+use Rattle.circ_pairs.specs.declared.goals.Goal.{Goal}
+use Rattle.circ_pairs.specs.Goal.{goal}
+use Rattle.circ_theory.specs.Theory.{Theory}
 use Rattle.circ_theory.specs.Experiment.{Entry}
 
 -- an operator of one word

@@ -4,9 +4,10 @@ use Rattle.std.specs.List.{Contains}
 use Rattle.circ_term.specs.Tree.{Tree, sort_of}
 use Rattle.circ_term.specs.Substitution.{Substitution, instance}
 use Rattle.circ_theory.specs.Signature.{IsSubstitution}
-use Rattle.circ_theory.specs.Theory.{Theory, Pair, Derivative, IsVisible}
+use Rattle.circ_pairs.specs.Pair.{Pair}
+use Rattle.circ_theory.specs.Theory.{Theory, Derivative, IsVisible}
 use Rattle.circ_theory.specs.Derivable.{Derivable}
-use Rattle.circ_theory.specs.declared.parts.Goal.{Goal}
+use Rattle.circ_pairs.specs.declared.goals.Goal.{Goal}
 
 -- a derivative with terms for its parameters
 pub record Entry : Type 0 where

@@ -1,16 +1,4 @@
--- Goals, and equations and hypotheses likewise: two sides that are to be equal under conditions (conditional equations).
-use Rattle.std.specs.Prelude.{List}
-use Rattle.circ_term.specs.Tree.{Tree}
-use Rattle.circ_theory.specs.Pair.{Pair, pair_with}
-use Rattle.circ_theory.specs.declared.parts.Equation.{Equation}
-use Rattle.circ_theory.specs.declared.parts.Goal.{Goal}
-
-abbrev pub goal : (conds : List Pair) → Tree → Tree → Goal
-goal E s t = record { conds = E; left = s; right = t }
-
-abbrev pub sides : Goal → Pair
-sides g = pair_with g.left g.right
-
--- what an equation says
-abbrev pub goal_of : Equation → Goal
-goal_of e = goal e.conds e.left e.right
+-- Goals and equations, as circ_pairs has them.
+pub use Rattle.circ_pairs.specs.declared.goals.Equation.{Equation}
+pub use Rattle.circ_pairs.specs.declared.goals.Goal.{Goal}
+pub use Rattle.circ_pairs.specs.Goal.{goal, sides, goal_of}

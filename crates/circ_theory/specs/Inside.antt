@@ -12,11 +12,13 @@ use Rattle.circ_theory.specs.declared.theories.Observer.{Observer}
 use Rattle.circ_theory.specs.declared.theories.Parts.{Parts}
 use Rattle.circ_form.specs.Form.{text_of, IsForm}
 use Rattle.circ_theory.specs.Signature.{Operator}
-use Rattle.circ_theory.specs.Theory.{Theory, declared, goal_of}
-use Rattle.circ_theory.specs.Variables.{sorts_of}
+use Rattle.circ_pairs.specs.Goal.{goal_of}
+use Rattle.circ_theory.specs.Theory.{Theory, declared}
+use Rattle.circ_pairs.specs.Variables.{sorts_of}
 use Rattle.circ_theory.specs.Operators.{operator_of, ops_by_word, ops_by_word_and_sort}
-use Rattle.circ_theory.specs.Rule.{is_rule}
-use Rattle.circ_theory.specs.Observing.{parameter_sorts_in, derivative_with, is_hidden, case_list, is_condition_sort}
+use Rattle.circ_pairs.specs.Rule.{is_rule}
+use Rattle.circ_pairs.specs.Slots.{parameter_sorts_in}
+use Rattle.circ_theory.specs.Observing.{derivative_with, is_hidden, case_list, is_condition_sort}
 use Rattle.circ_theory.specs.WellFormed.{IsWellFormed}
 
 -- the key of an operator in the map of operators: the text of its form, which gives the form back, and the argument sorts

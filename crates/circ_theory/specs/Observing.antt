@@ -1,55 +1,19 @@
 -- What a term has to be for a derivative, and when derivatives and case lists are refused.
-use Rattle.std.specs.Prelude.{ℕ, List, [], ◌∷◌, ◌++◌, Bool, false, not, ◌==◌, ◌&&◌, ◌||◌, nat_eq, if◌then◌else◌, length, map, find, Option, Some}
+use Rattle.std.specs.Prelude.{ℕ, List, [], ◌∷◌, ◌++◌, Bool, false, not, ◌==◌, ◌&&◌, ◌||◌, if◌then◌else◌, length, find, Option, Some}
 use Rattle.std.specs.Prelude.{None, is_some}
-use Rattle.std.specs.List.{list_any, filter, slice_get}
+use Rattle.std.specs.List.{list_any, slice_get}
 use Rattle.std.specs.Option.{option_map, option_map_or, option_or}
-use Rattle.circ_term.specs.Tree.{Tree, Trees, sort_of}
+use Rattle.circ_term.specs.Tree.{Tree}
 use Rattle.circ_theory.specs.declared.fault.TheoryFault.{TheoryFault}
 use Rattle.circ_theory.specs.declared.fault.TheoryFault.TheVariants.{Twice, UnknownSort, IllSorted, NotLinear, HoleCount, NoConstant, NotVisible}
 use Rattle.circ_theory.specs.declared.fault.TheoryFault.TheVariants.{NowHidden}
 use Rattle.circ_theory.specs.Limits.{derivative_limit, parameter_limit, constant_limit}
 use Rattle.circ_theory.specs.Signature.{Signature}
-use Rattle.circ_theory.specs.Theory.{Theory, Pair, Derivative, CaseList}
-use Rattle.circ_theory.specs.Variables.{Variable, occurrences, all_occurrences, seen_in, AreNumberedFrom}
+use Rattle.circ_theory.specs.Theory.{Theory, Derivative, CaseList}
 use Rattle.circ_theory.specs.Adding.{count_fault, is_no_sort}
+pub use Rattle.circ_pairs.specs.Pair.{has_condition_of}
+pub use Rattle.circ_pairs.specs.Slots.{is_hole, is_parameter, holes_in, all_holes_in, parameters_in, all_parameters_in, parameter_sorts_in, all_parameter_sorts_in, AreParametersInOrder, first_repeated}
 pub use Rattle.circ_theory.specs.Adding.{long_fault, is_hidden}
-
--- variable 0 of any sort
-abbrev pub is_hole : Variable → Bool
-is_hole v = v.number == 0
-
-abbrev pub is_parameter : Variable → Bool
-is_parameter v = not (is_hole v)
-
--- the sorts of the holes, one for each place from the left
-abbrev pub holes_in : Tree → List ℕ
-holes_in t = map (λ v. v.sort) (filter is_hole (occurrences t))
-
-abbrev pub all_holes_in : Trees → List ℕ
-all_holes_in ts = map (λ v. v.sort) (filter is_hole (all_occurrences ts))
-
--- the numbers of the parameters, one for each place from the left
-abbrev pub parameters_in : Tree → List ℕ
-parameters_in t = map (λ v. v.number) (filter is_parameter (occurrences t))
-
-abbrev pub all_parameters_in : Trees → List ℕ
-all_parameters_in ts = map (λ v. v.number) (filter is_parameter (all_occurrences ts))
-
--- the sorts of the parameters, one for each place from the left
-abbrev pub parameter_sorts_in : Tree → List ℕ
-parameter_sorts_in t = map (λ v. v.sort) (filter is_parameter (occurrences t))
-
-abbrev pub all_parameter_sorts_in : Trees → List ℕ
-all_parameter_sorts_in ts = map (λ v. v.sort) (filter is_parameter (all_occurrences ts))
-
--- The parameters are numbered from 1, by first occurrence.
-abbrev pub AreParametersInOrder : Tree → Type 0
-AreParametersInOrder t = AreNumberedFrom 1 (filter is_parameter (seen_in t []))
-
--- the first item that stands again later
-abbrev pub first_repeated : List ℕ → Option ℕ
-first_repeated [] = None
-first_repeated (n ∷ ns) = if list_any (nat_eq n) ns then Some n else first_repeated ns
 
 abbrev pub first_or_zero : List ℕ → ℕ
 first_or_zero [] = 0
@@ -65,10 +29,6 @@ derivative_of t = derivative_with (first_or_zero (holes_in t)) t
 -- the constants of a sort's case list
 abbrev pub cases_of : Theory → ℕ → Option (List ℕ)
 cases_of th s = option_map (λ l. l.constants) (find (λ l. s == l.sort) th.cases)
-
--- whether one of the conditions is of this sort
-abbrev pub has_condition_of : ℕ → List Pair → Bool
-has_condition_of s E = list_any (λ p. s == sort_of p.left) E
 
 -- whether a condition of an equation is of this sort
 abbrev pub is_condition_sort : Theory → ℕ → Bool

@@ -1,6 +1,3 @@
--- The variables that were gathered, as the code keeps them.
-use Rattle.circ_theory.specs.declared.renumber.Occurring.{Occurring}
-use Rattle.circ_theory.specs.Variables.{Variable}
-
-abbrev pub variable_of : Occurring → Variable
-variable_of v = record { number = v.number; sort = v.sort }
+-- The variables that were gathered, as circ_pairs has them.
+pub use Rattle.circ_pairs.specs.declared.renumber.Occurring.{Occurring}
+pub use Rattle.circ_pairs.specs.Occurring.{variable_of}

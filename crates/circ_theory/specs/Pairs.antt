@@ -1,6 +1,3 @@
--- What contracts see of pairs.
-use Rattle.circ_theory.specs.Pair.{Pair, pair_with}
-use Rattle.circ_theory.specs.declared.pairs.Pair.{Pair as PairOfTerms}
-
-abbrev pub plain_pair : PairOfTerms → Pair
-plain_pair p = pair_with p.left p.right
+-- What contracts see of pairs, as circ_pairs has it.
+pub use Rattle.circ_pairs.specs.declared.pairs.Pair.{Pair as PairOfTerms}
+pub use Rattle.circ_pairs.specs.Pairs.{plain_pair}

@@ -5,9 +5,10 @@ use Rattle.std.specs.Option.{unwrap_or}
 use Rattle.circ_term.specs.Tree.{Tree, Var, at, replaced}
 use Rattle.circ_term.specs.Limits.{IsWithinLimits}
 use Rattle.circ_term.specs.Substitution.{Substitution, instance}
-use Rattle.circ_theory.specs.declared.parts.Goal.{Goal}
-use Rattle.circ_theory.specs.Theory.{Pair, sides}
-use Rattle.circ_theory.specs.Variables.{variables_of, sorted, FitVariables, given}
+use Rattle.circ_pairs.specs.declared.goals.Goal.{Goal}
+use Rattle.circ_pairs.specs.Pair.{Pair}
+use Rattle.circ_pairs.specs.Goal.{sides}
+use Rattle.circ_pairs.specs.Variables.{variables_of, sorted, FitVariables, given}
 use Rattle.circ_theory.specs.declared.way.Way.{Way}
 use Rattle.circ_theory.specs.declared.way.Way.TheVariants.{Forth, Back}
 

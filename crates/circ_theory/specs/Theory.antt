@@ -3,10 +3,10 @@ use Rattle.std.specs.Prelude.{◌≡◌, ℕ, List, [], Some, true}
 use Rattle.std.specs.List.{slice_get, Contains}
 use Rattle.circ_term.specs.Tree.{Tree, Var, App, none, more, sort_of}
 use Rattle.circ_theory.specs.Signature.{Signature, Operator, IsWellSorted}
-use Rattle.circ_theory.specs.declared.parts.Equation.{Equation}
-use Rattle.circ_theory.specs.declared.parts.Goal.{Goal}
-pub use Rattle.circ_theory.specs.Pair.{Pair, pair_with, instance_pair, Within}
-pub use Rattle.circ_theory.specs.Goal.{goal, sides, goal_of}
+use Rattle.circ_pairs.specs.declared.goals.Equation.{Equation}
+use Rattle.circ_pairs.specs.declared.goals.Goal.{Goal}
+pub use Rattle.circ_pairs.specs.Pair.{Pair, pair_with, instance_pair, Within}
+pub use Rattle.circ_pairs.specs.Goal.{goal, sides, goal_of}
 
 -- a term with a hole, which is variable 0 of this sort; the other variables are its parameters
 pub record Derivative : Type 0 where

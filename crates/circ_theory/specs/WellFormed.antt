@@ -1,13 +1,14 @@
 -- What is true of each theory that a `Theory` holds.
 use Rattle.std.specs.Prelude.{◌≡◌, ◌≢◌, ℕ, ◌≤◌, [], ◌∷◌, Some, nat_eq, length, map}
 use Rattle.std.specs.List.{slice_get, filter, Contains, IsDistinct}
-use Rattle.circ_theory.specs.declared.parts.Equation.{Equation}
+use Rattle.circ_pairs.specs.declared.goals.Equation.{Equation}
 use Rattle.circ_theory.specs.Limits.{sort_limit, variable_limit, operator_limit, equation_limit, derivative_limit, parameter_limit, constant_limit, condition_limit}
 use Rattle.circ_theory.specs.Signature.{Signature, Operator, IsSort, IsWellSorted}
-use Rattle.circ_theory.specs.Theory.{Theory, Declared, Derivative, CaseList, IsVisible, goal_of, IsWellSortedGoal}
-use Rattle.circ_theory.specs.Variables.{occurrences, AreNumberedFrom, IsInOrder}
+use Rattle.circ_pairs.specs.Goal.{goal_of}
+use Rattle.circ_theory.specs.Theory.{Theory, Declared, Derivative, CaseList, IsVisible, IsWellSortedGoal}
+use Rattle.circ_pairs.specs.Variables.{occurrences, AreNumberedFrom, IsInOrder}
 use Rattle.circ_theory.specs.Operators.{IsOperator}
-use Rattle.circ_theory.specs.Observing.{is_parameter, holes_in, parameters_in}
+use Rattle.circ_pairs.specs.Slots.{is_parameter, holes_in, parameters_in}
 
 -- A derivative: a well-sorted term in which the hole, variable 0, occurs once, and the parameters, which are numbered from 1 from the left, once each.
 pub record IsDerivative (sig : Signature) (d : Derivative) : Type 0 where

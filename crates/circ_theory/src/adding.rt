@@ -1,6 +1,7 @@
 //! What the calls that add parts test, and how they keep the numbers of operators.
 ghost use Rattle.std.specs.Prelude.{◌≡◌, ℕ, List, [], ◌∷◌, ◌++◌, ◌&&◌, if◌then◌else◌, nat_eq};
-ghost use Rattle.std.specs.Prelude.{nat_lt, not, find, is_some, OnOk, OnErr};
+ghost use Rattle.std.specs.Prelude.{None, nat_lt, not, find, is_some, OnOk, OnErr};
+ghost use Rattle.std.specs.Map.{lookup};
 ghost use Rattle.std.specs.Cmp.Lexicographic.{pointwise};
 ghost use Rattle.circ_term.specs.Tree.{operator_number};
 ghost use Rattle.circ_form.specs.Form.{hole_count};
@@ -30,12 +31,27 @@ pub(crate) fn note_word(
     ensures err { OnErr result (IsKeptSo by_word.old.entries by_word.new.entries) }
 {
     if let Some(overloads) = by_word.get_mut(word) {
-        overloads.note(alloc, sort, number)?;
-        return Ok(());
+        return overloads.note(alloc, sort, number);
     }
     let copy = Vec::from_slice(alloc, word)?;
+    begin_word(alloc, by_word, copy, sort, number)
+}
+
+// The same under a word that has no operator.
+fn begin_word(
+    alloc: Global,
+    by_word: &mut IndexMap<Vec<u8>, Overloads>,
+    word: Vec<u8>,
+    sort: Option<u32>,
+    number: u32,
+) -> Result<(), AllocError>
+    requires { lookup (λ k. pointwise nat_eq word.items k.items) by_word.old.entries ≡ None }
+    ensures noted { OnOk result (IsNoted by_word.old.entries by_word.new.entries word.items sort
+        number) }
+    ensures err { OnErr result (IsKeptSo by_word.old.entries by_word.new.entries) }
+{
     let overloads = Overloads::one(alloc, sort, number)?;
-    by_word.insert(copy, overloads)?;
+    drop(by_word.insert(word, overloads)?);
     Ok(())
 }
 
@@ -106,8 +122,15 @@ pub(crate) fn is_ill_sorted(decl: &OpDecl) -> bool
     if !(decl.assoc || decl.comm || decl.idem) {
         return false;
     }
-    match decl.args.as_slice() {
-        [first, second] => *first != decl.result || *second != decl.result,
-        _ => true,
+    !is_binary(decl.args.as_slice(), decl.result)
+}
+
+// Whether two argument sorts and the result sort are one.
+fn is_binary(args: &[u32], sort: u32) -> bool
+    ensures { result ≡ pointwise nat_eq args.now (sort ∷ sort ∷ []) }
+{
+    match args {
+        [first, second] => *first == sort && *second == sort,
+        _ => false,
     }
 }

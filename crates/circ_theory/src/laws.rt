@@ -15,8 +15,9 @@ ghost use Rattle.circ_theory.specs.Limits.{argument_limit, parameter_limit, cons
 ghost use Rattle.circ_theory.specs.Limits.{condition_limit};
 ghost use Rattle.circ_form.specs.Form.{pieces_of, form_fault};
 ghost use Rattle.circ_theory.specs.Signature.{IsWellSorted, IsSubstitution};
-ghost use Rattle.circ_theory.specs.Theory.{Theory, Pair, Within, instance_pair};
-ghost use Rattle.circ_theory.specs.Variables.{IsInOrder};
+ghost use Rattle.circ_pairs.specs.Pair.{Pair, Within, instance_pair};
+ghost use Rattle.circ_theory.specs.Theory.{Theory};
+ghost use Rattle.circ_pairs.specs.Variables.{IsInOrder};
 ghost use Rattle.circ_theory.specs.Derivable.{Derivable, Gives};
 ghost use Rattle.circ_theory.specs.Experiment.{Fits, on, BehavesFrom};
 ghost use Rattle.circ_theory.specs.WellFormed.{IsWellFormed};

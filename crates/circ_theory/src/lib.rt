@@ -6,27 +6,20 @@
 #![tactic(auto)]
 
 mod adding;
-mod building;
 mod fault;
-mod fresh;
 pub mod laws;
-mod observing;
-mod order;
 mod overloads;
-mod pairs;
 mod parts;
 mod renumber;
 mod theories;
 mod way;
 
-pub use building::{constant_of, variables_from};
+pub use circ_pairs::{Equation, Goal, Occurring, Pair, Pairs};
+pub use circ_pairs::{above, above_pairs, constant_of, fresh_after, fresh_in, gather, in_order};
+pub use circ_pairs::{parameters_in_order, share_pairs, variables_from};
 pub use fault::TheoryFault;
-pub use fresh::{above, above_pairs, fresh_after, fresh_in};
-pub use observing::parameters_in_order;
-pub use order::in_order;
-pub use pairs::{Pair, Pairs, share_pairs};
-pub use parts::{Equation, Goal, OpDecl, Side};
-pub use renumber::{Occurring, gather, renumbered};
+pub use parts::{OpDecl, Side};
+pub use renumber::renumbered;
 pub use theories::{Theory, Vars};
 pub use way::Way;
 

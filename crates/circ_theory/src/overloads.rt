@@ -1,6 +1,7 @@
 //! The operators of one first word, by the sorts of their first arguments.
 ghost use Rattle.std.specs.Prelude.{◌≡◌, ◌<◌, ℕ, List, [], ◌∷◌, ◌++◌, if◌then◌else◌, nat_eq};
-ghost use Rattle.std.specs.Prelude.{Option, OnOk, OnErr, IfOk, vec_len, vec_capacity};
+ghost use Rattle.std.specs.Prelude.{Option, None, OnOk, OnErr, IfOk, vec_len, vec_capacity};
+ghost use Rattle.std.specs.Map.{lookup};
 ghost use Rattle.std.specs.List.{slice_get};
 ghost use Rattle.std.specs.Option.{option_eq};
 ghost use Rattle.circ_theory.specs.Inside.{kept_at, kept_with};
@@ -124,11 +125,35 @@ fn note_sort(
         kept_at by_sort.old.entries s) }
 {
     if let Some(numbers) = by_sort.get_mut(&sort) {
-        numbers.push(number)?;
-        return Ok(());
+        return push_number(numbers, number);
     }
+    begin_sort(alloc, by_sort, sort, number)
+}
+
+// Keeps a number under a sort that has none.
+fn begin_sort(
+    alloc: Global,
+    by_sort: &mut IndexMap<Option<u32>, Vec<u32>>,
+    sort: Option<u32>,
+    number: u32,
+) -> Result<(), AllocError>
+    requires { lookup (option_eq nat_eq sort) by_sort.old.entries ≡ None }
+    ensures noted { OnOk result ((s : Option ℕ) → kept_at by_sort.new.entries s ≡
+        (if option_eq nat_eq s sort then kept_at by_sort.old.entries s ++ number ∷ []
+        else kept_at by_sort.old.entries s)) }
+    ensures err { OnErr result ((s : Option ℕ) → kept_at by_sort.new.entries s ≡
+        kept_at by_sort.old.entries s) }
+{
     let numbers = vec![in alloc; number]?;
-    by_sort.insert(sort, numbers)?;
+    drop(by_sort.insert(sort, numbers)?);
+    Ok(())
+}
+
+fn push_number(numbers: &mut Vec<u32>, number: u32) -> Result<(), AllocError>
+    ensures pushed { OnOk result (numbers.new.items ≡ numbers.old.items ++ number ∷ []) }
+    ensures err { OnErr result (numbers.new.items ≡ numbers.old.items) }
+{
+    numbers.push(number)?;
     Ok(())
 }
 

@@ -11,8 +11,9 @@ mod reading;
 mod terms;
 
 use crate::overloads::Overloads;
-use crate::parts::{Equation, OpDecl};
+use crate::parts::OpDecl;
 use circ_form::Text;
+use circ_pairs::Equation;
 use circ_term::Term;
 use indexmap::{IndexMap, IndexSet};
 use std::alloc::{AllocError, Global};

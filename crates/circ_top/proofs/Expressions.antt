@@ -5,7 +5,7 @@ use Rattle.circ_term.specs.Limits.{IsWithinLimits}
 use Rattle.circ_theory.specs.Signature.{IsWellSorted}
 use Rattle.circ_theory.specs.Theory.{goal}
 use Rattle.circ_theory.specs.Fresh.{above, fresh_in}
-use Rattle.circ_theory.specs.declared.parts.Goal.{Goal}
+use Rattle.circ_theory.specs.Goal.{Goal}
 use Rattle.circ_proof.proofs.Members.{nothing}
 use Rattle.circ_conditional_search.specs.ConditionalSearch.{CanAllBeSearched}
 use Rattle.circ_regex.specs.Lang.{LANG, lang_sort}

@@ -2,7 +2,7 @@
 use Rattle.std.proofs.Common.{◌≡◌, ℕ, List}
 use Rattle.circ_theory.specs.Theory.{Theory}
 use Rattle.circ_theory.specs.WellFormed.{IsWellFormed}
-use Rattle.circ_theory.specs.declared.parts.Goal.{Goal}
+use Rattle.circ_theory.specs.Goal.{Goal}
 use Rattle.circ_grammar.specs.FirstBad.{LineFault, Line_fault, Limit_fault}
 use Rattle.circ_proof.specs.Proof.{Proof}
 use Rattle.circ_proof.specs.Accepted.{Accepted, Derives, FirstFail}

@@ -2,7 +2,7 @@
 use Rattle.std.proofs.Common.{◌≡◌, ℕ, List, refl, ap, sym, subst, inl, inr, true, Option, None}
 use Rattle.circ_outer.specs.Shelf.{ShelfState}
 use Rattle.circ_theory.specs.Theory.{Theory}
-use Rattle.circ_theory.specs.declared.parts.Goal.{Goal}
+use Rattle.circ_theory.specs.Goal.{Goal}
 use Rattle.circ_script.specs.Script.{Script}
 use Rattle.circ_script.specs.ReadsAsScript.{ReadsAsScript}
 use Rattle.circ_files.specs.Files.{IsOnly, RefusesFile, IsUnread, IsTooLong, IsFileFault}

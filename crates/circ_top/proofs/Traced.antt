@@ -1,7 +1,7 @@
 -- What `trace` answers.
 use Rattle.std.proofs.Common.{◌≡◌, List, [], sym, ap, subst, None}
 use Rattle.circ_theory.specs.Theory.{Theory}
-use Rattle.circ_theory.specs.declared.parts.Goal.{Goal}
+use Rattle.circ_theory.specs.Goal.{Goal}
 use Rattle.circ_attempt.specs.Search.{Conduct}
 use Rattle.circ_files.specs.Ending.{Ending}
 use Rattle.circ_trace.specs.Tracing.{TraceEnds}

@@ -2,7 +2,7 @@
 use Rattle.std.proofs.Common.{◌≡◌, ◌⊎◌, ◌++◌, ℕ, List, [], ◌∷◌, ◌+◌, ◌<◌, length, codes, decimal, arith, refl, sym, ◌∙◌, ap, subst, inl, inr}
 use Rattle.std.proofs.lemmas.Fmt.{decimal_digit}
 use Rattle.circ_theory.specs.Theory.{Theory}
-use Rattle.circ_theory.specs.declared.parts.Goal.{Goal}
+use Rattle.circ_theory.specs.Goal.{Goal}
 use Rattle.circ_grammar.specs.FirstBad.{file_text}
 use Rattle.circ_grammar.specs.Grammar.{proof_lines}
 use Rattle.circ_proof.specs.Accepted.{BlocksDerive, Derives, BlockFails, FirstFail}

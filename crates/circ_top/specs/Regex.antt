@@ -4,7 +4,7 @@ use Rattle.circ_outer.specs.Shelf.{ShelfState, IsQuiet}
 use Rattle.circ_outer.specs.Sink.{SinkState}
 use Rattle.circ_theory.specs.Theory.{goal}
 use Rattle.circ_theory.specs.WellFormed.{IsWellFormed}
-use Rattle.circ_theory.specs.declared.parts.Goal.{Goal}
+use Rattle.circ_theory.specs.Goal.{Goal}
 use Rattle.circ_regex.specs.Grammar.{byte_limit, IsTextOfRegex}
 use Rattle.circ_regex.specs.Lang.{LANG}
 use Rattle.circ_regex.specs.Matches.{Letter, Expression, Matches}

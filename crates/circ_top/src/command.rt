@@ -4,7 +4,7 @@ ghost use Rattle.std.specs.Prelude.{IfOk, OnOk, IfErr};
 ghost use Rattle.circ_outer.specs.Shelf.{ShelfFrame, IsQuiet};
 ghost use Rattle.circ_outer.specs.Sink.{SinkFrame};
 ghost use Rattle.circ_theory.specs.Theory.{Theory};
-ghost use Rattle.circ_theory.specs.declared.parts.Goal.{Goal};
+ghost use Rattle.circ_theory.specs.Goal.{Goal};
 ghost use Rattle.circ_proof.specs.Proof.{Proof};
 ghost use Rattle.circ_proof.specs.Accepted.{Derives, FirstFail};
 ghost use Rattle.circ_reports.specs.declared.report.Report.{Report};

@@ -5,7 +5,7 @@ use Rattle.std.specs.List.{slice_get}
 use Rattle.std.specs.Option.{option_map_or}
 use Rattle.circ_theory.specs.Signature.{Signature}
 use Rattle.circ_theory.specs.Theory.{Derivative}
-use Rattle.circ_theory.specs.declared.parts.Goal.{Goal}
+use Rattle.circ_theory.specs.Goal.{Goal}
 use Rattle.circ_proof.proofs.Derivatives.{StartsWith, derivative_at}
 use Rattle.circ_trace.specs.Descents.{derived_row}
 use Rattle.circ_trace.specs.TurnText.{hypothesis_text, shown_goal, hypothesis_lines}

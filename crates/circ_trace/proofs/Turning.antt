@@ -1,7 +1,7 @@
 -- A turn with hypotheses as rules, and what is read before the first turn.
 use Rattle.std.proofs.Common.{◌≡◌, true, List, [], ◌∷◌, length, ap, sym, subst}
 use Rattle.circ_theory.specs.Theory.{Theory}
-use Rattle.circ_theory.specs.declared.parts.Goal.{Goal}
+use Rattle.circ_theory.specs.Goal.{Goal}
 use Rattle.circ_special.specs.declared.place.Place.{Place}
 use Rattle.circ_plain_search.specs.Search.{Limits, Standing, start}
 use Rattle.circ_attempt.specs.Search.{Conduct, Going, turn_rewriting}

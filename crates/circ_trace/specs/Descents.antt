@@ -3,7 +3,7 @@ use Rattle.std.specs.Prelude.{ℕ, zero, suc, ◌+◌, ◌==◌, List, [], ◌�
 use Rattle.circ_term.specs.Tree.{sort_of}
 use Rattle.circ_theory.specs.Theory.{Theory, Derivative}
 use Rattle.circ_theory.specs.Observing.{is_hidden}
-use Rattle.circ_theory.specs.declared.parts.Goal.{Goal}
+use Rattle.circ_theory.specs.Goal.{Goal}
 use Rattle.circ_plain_search.specs.Search.{Standing, constants_of}
 use Rattle.circ_trace.specs.declared.descent.Descent.{Descent}
 use Rattle.circ_trace.specs.declared.descent.Descent.TheVariants.{Given, Derived, Case}

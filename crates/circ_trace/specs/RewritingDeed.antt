@@ -2,7 +2,7 @@
 -- the same, which ends in `trying`.
 use Rattle.std.specs.Prelude.{ℕ, false, if◌then◌else◌, List, [], ◌++◌, Option, Some, None}
 use Rattle.circ_theory.specs.Theory.{Theory}
-use Rattle.circ_theory.specs.declared.parts.Goal.{Goal}
+use Rattle.circ_theory.specs.Goal.{Goal}
 use Rattle.circ_special.specs.declared.place.Place.{Place}
 use Rattle.circ_plain_search.specs.Search.{Standing}
 use Rattle.circ_conditional_search.specs.Joining.{Swept}

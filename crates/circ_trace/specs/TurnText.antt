@@ -6,7 +6,7 @@ use Rattle.circ_term.specs.Tree.{Tree, sort_of, size_of}
 use Rattle.circ_theory.specs.Signature.{Signature}
 use Rattle.circ_theory.specs.Theory.{Theory}
 use Rattle.circ_theory.specs.Observing.{is_hidden}
-use Rattle.circ_theory.specs.declared.parts.Goal.{Goal}
+use Rattle.circ_theory.specs.Goal.{Goal}
 use Rattle.circ_mixfix.specs.Printing.{text_of_term, text_of_goal}
 use Rattle.circ_plain_search.specs.Joining.{first_open}
 use Rattle.circ_plain_search.specs.Search.{Standing}

@@ -2,7 +2,7 @@
 ghost use Rattle.std.specs.Prelude.{◌≡◌, ◌≢◌, ◌<◌, ◌^◌, ◌++◌, List, length, Some, None};
 ghost use Rattle.std.specs.Prelude.{false, IfOk, OnOk};
 ghost use Rattle.std.specs.Option.{option_map};
-ghost use Rattle.circ_theory.specs.declared.parts.Goal.{Goal as TheGoal};
+ghost use Rattle.circ_theory.specs.Goal.{Goal as TheGoal};
 ghost use Rattle.circ_rewrite.specs.declared.fault.RewriteFault.TheVariants.{Memory as NoMemory};
 ghost use Rattle.circ_block.specs.Rules.{IsRulesOf};
 ghost use Rattle.circ_join.specs.Uses.{plain_uses};
@@ -15,7 +15,7 @@ ghost use Rattle.circ_turn.specs.Ending.{reducing};
 ghost use Rattle.circ_turn.specs.Standing.{standing, conduct_with};
 ghost use Rattle.circ_trace.specs.Account.{account, account_of, account_on, deed_on};
 ghost use Rattle.circ_trace.specs.Account.{deed_trying, join_deed_trying, with_cases};
-ghost use Rattle.circ_trace.specs.Account.{plain_account_if};
+ghost use Rattle.circ_trace.specs.Account.{account_with, plain_account, plain_account_if};
 ghost use Rattle.circ_trace.specs.Deed.{Ends, Opens, passes_or, plain_deed};
 ghost use Rattle.circ_trace.specs.Telling.{RulesAreRead};
 ghost use Rattle.circ_trace.specs.Used.{numbers_of};
@@ -80,7 +80,11 @@ impl TurnAhead<'_, '_, '_> {
         let mut budget = self.state.budget;
         let reducer = &mut rules.goals.reducer;
         match normal_sides(alloc, reducer, &goal.left, &goal.right, &mut budget) {
-            Err(stop) => none_unless_memory(&stop),
+            Err(stop) => {
+                let none = none_unless_memory(&stop);
+                drop(stop);
+                none
+            }
             Ok(sides) => {
                 let goal = with_sides(alloc, goal, sides)?;
                 self.normal_account(rules, goal, budget)
@@ -107,13 +111,37 @@ impl TurnAhead<'_, '_, '_> {
         ensures rules { IsRulesOf self.now.search.now.theory.now self.now.state.now.hyps.earlier
             rules.new }
     {
-        let deed = self.deed(rules, &goal, budget)?;
-        let deed = with_cases(self.search, &goal, deed)?;
-        Ok(Some(Account {
-            left: goal.left,
-            right: goal.right,
-            deed,
-        }))
+        match self.deed_with_cases(rules, &goal, budget) {
+            Err(fault) => {
+                drop(goal);
+                Err(fault)
+            }
+            Ok(deed) => Ok(Some(account_with(goal, deed))),
+        }
+    }
+
+    // What is done with the goal, with the term on which it is split.
+    fn deed_with_cases(
+        &self,
+        rules: &mut BlockRules<'_>,
+        goal: &Goal,
+        budget: u64,
+    ) -> Result<Deed, AllocError>
+        requires rules { IsRulesOf self.now.search.now.theory.now self.now.state.now.hyps.earlier
+            rules.old }
+        requires passes { RulesAreRead self.now.search.now (standing self.now.state.now)
+            self.now.passes.now }
+        requires conds { rules.old.goals.conds ≡ goal.now.conds }
+        ensures exact { IfOk result (λ d. plain_deed d ≡ with_cases
+            self.now.search.now.theory.now self.now.search.now.limits.split goal.now
+            (deed_on self.now.search.now.theory.now self.now.search.now.gamma.now
+            self.now.search.now.limits.rewrite
+            (going (standing self.now.state.now) self.now.passed.now) goal.now budget)) }
+        ensures rules { IsRulesOf self.now.search.now.theory.now self.now.state.now.hyps.earlier
+            rules.new }
+    {
+        let deed = self.deed(rules, goal, budget)?;
+        with_cases(self.search, goal, deed)
     }
 
     // What is done with a goal whose sides are in normal form.
@@ -163,6 +191,17 @@ impl TurnAhead<'_, '_, '_> {
             Err(fault) => ends_unless_memory(&fault, false),
             Ok(joined) => joined_deed(self.search, reducer, &rules.lemmas, goal, joined, budget),
         }
+    }
+}
+
+// What a turn comes upon in a goal and does.
+fn account_with(goal: Goal, deed: Deed) -> Account
+    ensures { plain_account result ≡ account_with goal.left goal.right (plain_deed deed) }
+{
+    Account {
+        left: goal.left,
+        right: goal.right,
+        deed,
     }
 }
 

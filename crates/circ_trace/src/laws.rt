@@ -1,7 +1,7 @@
 //! Laws of traces.
 ghost use Rattle.std.specs.Prelude.{◌≡◌, List, [], ℕ};
 ghost use Rattle.circ_theory.specs.Theory.{Theory};
-ghost use Rattle.circ_theory.specs.declared.parts.Goal.{Goal};
+ghost use Rattle.circ_theory.specs.Goal.{Goal};
 ghost use Rattle.circ_attempt.specs.Search.{Conduct};
 ghost use Rattle.circ_found.specs.Answering.{SearchEnds};
 ghost use Rattle.circ_files.specs.Ending.{Ending};

@@ -1,6 +1,6 @@
 //! The search for a proof with the lines of its turns.
 ghost use Rattle.std.specs.Prelude.{◌≡◌, [], List, map, IfOk};
-ghost use Rattle.circ_theory.specs.declared.parts.Goal.{Goal as TheGoal};
+ghost use Rattle.circ_theory.specs.Goal.{Goal as TheGoal};
 ghost use Rattle.circ_contexts.specs.Candidates.{plain_lists};
 ghost use Rattle.circ_plain_search.specs.Greatest.{GreatestSpecialSet};
 ghost use Rattle.circ_plain_search.specs.Numbering.{Proved};

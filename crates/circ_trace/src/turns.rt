@@ -2,7 +2,7 @@
 ghost use Rattle.std.specs.Prelude.{◌≡◌, ◌∷◌, ◌++◌, [], List, Ok, IfOk, OnOk};
 ghost use Rattle.std.specs.Bool.{OnTrue};
 ghost use Rattle.circ_theory.specs.Theory.{goal};
-ghost use Rattle.circ_theory.specs.declared.parts.Goal.{Goal as TheGoal};
+ghost use Rattle.circ_theory.specs.Goal.{Goal as TheGoal};
 ghost use Rattle.circ_plain_search.specs.BlockRules.{block_rules};
 ghost use Rattle.circ_plain_search.specs.Search.{Sides};
 ghost use Rattle.circ_conditional_search.specs.Coming.{IsReadyTrying, IsSmallTrying};
@@ -44,6 +44,23 @@ pub(crate) fn run_turns<'a>(
         (standing state.new) result }
 {
     let mut waiting = given(search.alloc, state.goals.as_slice())?;
+    first_turns(search, state, &mut waiting, out)
+}
+
+// The same with the goals of the first block, which are given.
+fn first_turns<'a>(
+    search: &Search<'a>,
+    state: &mut State<'_>,
+    waiting: &mut VecDeque<Descent>,
+    out: &mut Vec<u8>,
+) -> Result<(), End>
+    requires start { IsStart search.now.theory.now (manner_of search.now).limits
+        (standing state.old) }
+    requires waiting { waiting.old.items ≡ given_row state.old.goals.items }
+    ensures { RunEnds (IsTold search.now.theory.now search.now.gamma.now
+        (conduct_with search.now.limits) (standing state.old) out.old.items out.new.items)
+        (standing state.new) result }
+{
     let mut rules = BlockRules::new(search.alloc, search.theory)?;
     let mut passes = PassRules::new(search.alloc, state.goals.len());
     let mut passed = Passed::new(search.alloc);
@@ -53,10 +70,11 @@ pub(crate) fn run_turns<'a>(
         &mut passes,
         &mut passed,
         state,
-        &mut waiting,
+        waiting,
         out,
     );
     drop(rules);
+    drop(passes);
     done
 }
 

@@ -3,7 +3,7 @@ use Rattle.std.specs.Prelude.{◌≡◌, ℕ, ◌+◌, ◌-◌, Bool, true, fals
 use Rattle.circ_term.specs.Tree.{Tree, sort_of}
 use Rattle.circ_theory.specs.Pairs.{plain_pair}
 use Rattle.circ_theory.specs.Theory.{Theory, Pair}
-use Rattle.circ_theory.specs.declared.parts.Goal.{Goal}
+use Rattle.circ_theory.specs.Goal.{Goal}
 use Rattle.circ_proof.specs.Goals.{with_cond}
 use Rattle.circ_proof.specs.Rules.{Cases}
 use Rattle.circ_memo.specs.Value.{Rewriting}

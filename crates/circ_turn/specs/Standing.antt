@@ -5,7 +5,7 @@ use Rattle.circ_conditional_search.specs.ConditionalSearch.{CanAllBeSearched}
 use Rattle.circ_conditional_search.specs.Search.{Manner}
 use Rattle.circ_attempt.specs.Search.{Conduct}
 use Rattle.circ_theory.specs.Theory.{Theory}
-use Rattle.circ_theory.specs.declared.parts.Goal.{Goal}
+use Rattle.circ_theory.specs.Goal.{Goal}
 use Rattle.circ_proof.specs.Plain.{plain_chain}
 use Rattle.circ_proof.specs.PlainProof.{plain_steps}
 use Rattle.circ_numbering.specs.Plain.{plain_term_blocks}

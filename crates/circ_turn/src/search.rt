@@ -1,7 +1,7 @@
 //! What a search goes by, and its run.
 ghost use Rattle.std.specs.Prelude.{◌≡◌, ◌∷◌, [], List, Ok, IfOk};
 ghost use Rattle.std.specs.Bool.{OnTrue};
-ghost use Rattle.circ_theory.specs.declared.parts.Goal.{Goal as TheGoal};
+ghost use Rattle.circ_theory.specs.Goal.{Goal as TheGoal};
 ghost use Rattle.circ_theory.specs.Theory.{goal};
 ghost use Rattle.circ_plain_search.specs.BlockRules.{block_rules};
 ghost use Rattle.circ_plain_search.specs.Search.{Standing, Sides};

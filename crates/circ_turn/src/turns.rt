@@ -1,7 +1,7 @@
 //! The turns of a search.
 ghost use Rattle.std.specs.Prelude.{◌≡◌, ◌<◌, ◌≤◌, ◌^◌, ◌∷◌, List, length, drop, Some, Ok, OnOk};
 ghost use Rattle.std.specs.Option.{option_map};
-ghost use Rattle.circ_theory.specs.declared.parts.Goal.{Goal as TheGoal};
+ghost use Rattle.circ_theory.specs.Goal.{Goal as TheGoal};
 ghost use Rattle.circ_theory.specs.Limits.{condition_limit};
 ghost use Rattle.circ_theory.specs.Theory.{goal};
 ghost use Rattle.circ_plain_search.specs.BlockRules.{block_rules, hidden_lemmas};

@@ -1,63 +1,11 @@
-//! Instances of derivatives, without naming their parameters, and where their hole is.
+//! Where the hole of a derivative is.
 ghost use Rattle.std.specs.Prelude.{◌≡◌, ◌≤◌, ◌^◌, [], IfOk, length, unwrap_or, reverse};
 ghost use Rattle.std.specs.Option.{option_map};
 ghost use Rattle.circ_term.specs.Tree.{trees_of};
-ghost use Rattle.circ_special.specs.Fitting.{fits, all_fit, is_variable};
 ghost use Rattle.circ_expansion.specs.Expand.{first_path, first_path_in};
 
 use circ_term::{Kind, Term};
 use std::alloc::{AllocError, Global};
-
-// Whether the term is the body of a derivative with the variable at the hole and any terms of the
-// parameters' sorts at the parameters.
-#[cycle(fits)]
-pub(crate) fn fits(body: &Term, term: &Term, id: u32, sort: u32) -> bool
-    ensures { result ≡ fits id sort body.now term.now }
-{
-    match (body.kind(), term.kind()) {
-        (Kind::Variable { number, sort: own }, _) => {
-            term.sort() == own && (number != 0 || is_variable(term, id, sort))
-        }
-        (Kind::Application { .. }, Kind::Variable { .. }) => false,
-        (
-            Kind::Application {
-                op,
-                sort: own,
-                args,
-            },
-            Kind::Application {
-                op: other_op,
-                sort: other_sort,
-                args: other_args,
-            },
-        ) => op == other_op && own == other_sort && all_fit(args, other_args, id, sort),
-    }
-}
-
-#[cycle(fits)]
-fn all_fit(bodies: &[Term], terms: &[Term], id: u32, sort: u32) -> bool
-    ensures { result ≡ all_fit id sort (trees_of bodies.now) (trees_of terms.now) }
-{
-    if bodies.len() != terms.len() {
-        return false;
-    }
-    for i in 0..bodies.len() {
-        if !fits(&bodies[i], &terms[i], id, sort) {
-            return false;
-        }
-    }
-    true
-}
-
-// Whether the term is this variable.
-fn is_variable(term: &Term, id: u32, sort: u32) -> bool
-    ensures { result ≡ is_variable id sort term.now }
-{
-    match term.kind() {
-        Kind::Variable { number, sort: own } => number == id && own == sort,
-        Kind::Application { .. } => false,
-    }
-}
 
 // The path of the hole of a derivative with this body.
 pub(crate) fn hole_path(alloc: Global, body: &Term) -> Result<Vec<u16>, AllocError>

@@ -10,8 +10,8 @@ ghost use Rattle.circ_expansion.specs.Expand.{above_hole, visible_case, hidden_c
 ghost use Rattle.circ_expansion.specs.Expand.{is_special_path};
 ghost use Rattle.circ_uses.specs.Guards.{plain_guard, is_as, visible_above, hidden_above};
 
-use crate::fitting::{fits, hole_path};
-use circ_special::Gamma;
+use crate::fitting::hole_path;
+use circ_special::{Gamma, fits};
 use circ_term::Term;
 use circ_theory::Theory;
 use std::alloc::{AllocError, Global};

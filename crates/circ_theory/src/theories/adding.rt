@@ -5,31 +5,33 @@ ghost use Rattle.std.specs.Prelude.{vec_len, vec_capacity};
 ghost use Rattle.std.specs.Cmp.Lexicographic.{pointwise};
 ghost use Rattle.indexmap.specs.IndexMap.{spare, insert_entry};
 ghost use Rattle.indexmap.specs.IndexSet.{insert_key};
-ghost use Rattle.std.specs.List.{Contains, list_any};
+ghost use Rattle.std.specs.List.{Contains, list_any, position, slice_get};
+ghost use Rattle.circ_form.specs.Form.{first_word};
 ghost use Rattle.circ_theory.specs.Signature.{IsSort, IsWellSorted};
-ghost use Rattle.circ_theory.specs.Theory.{Declared, IsWellSortedPair, AreWellSortedPairs};
-ghost use Rattle.circ_theory.specs.Theory.{goal, pair_with};
-ghost use Rattle.circ_theory.specs.Pairs.{plain_pair};
-ghost use Rattle.circ_theory.specs.Observing.{has_condition_of};
-ghost use Rattle.circ_theory.specs.Variables.{IsInOrder, sorts_of};
+ghost use Rattle.circ_theory.specs.Theory.{Declared, declared, IsWellSortedPair};
+ghost use Rattle.circ_theory.specs.Theory.{AreWellSortedPairs};
+ghost use Rattle.circ_pairs.specs.Pair.{pair_with};
+ghost use Rattle.circ_pairs.specs.Goal.{goal};
+ghost use Rattle.circ_pairs.specs.Pairs.{plain_pair};
+ghost use Rattle.circ_pairs.specs.Pair.{has_condition_of};
+ghost use Rattle.circ_pairs.specs.Variables.{IsInOrder, sorts_of};
 ghost use Rattle.circ_theory.specs.Operators.{operator_of};
 ghost use Rattle.circ_theory.specs.Adding.{Numbers, sort_fault, op_fault, equation_fault};
 ghost use Rattle.circ_theory.specs.Adding.{var_number, var_fault, with_sort, with_var, with_op};
 ghost use Rattle.circ_theory.specs.Adding.{with_equation, IsFaultOf};
-ghost use Rattle.circ_theory.specs.Rule.{is_bound};
+ghost use Rattle.circ_pairs.specs.Rule.{is_bound};
 ghost use Rattle.circ_theory.specs.Inside.{IsNoted, IsKeptSo, is_same_key};
-ghost use Rattle.circ_theory.specs.Observing.{AreParametersInOrder, derivative_fault};
+ghost use Rattle.circ_pairs.specs.Slots.{AreParametersInOrder};
+ghost use Rattle.circ_theory.specs.Observing.{derivative_fault};
 ghost use Rattle.circ_theory.specs.Observing.{with_derivative, cases_fault, with_cases};
 
 use super::{Listed, Observer, OpKey, Theory, Vars};
 use crate::MOST_SORTS;
 use crate::adding::{count_fault, is_rule_with, note_word};
 use crate::fault::TheoryFault;
-use crate::observing::first_repeated;
-use crate::order::{EquationVariables, equation_variables};
 use crate::overloads::{Overloads, first_sort};
-use crate::pairs::{Pair, Pairs};
-use crate::parts::{Equation, OpDecl};
+use crate::parts::OpDecl;
+use circ_pairs::{Equation, EquationVariables, Pair, Pairs, equation_variables, first_repeated};
 use circ_term::Term;
 use indexmap::{IndexMap, IndexSet};
 use std::alloc::{AllocError, Global};
@@ -51,8 +53,7 @@ impl Theory {
         if let Some(fault) = count_fault(number, MOST_SORTS) {
             return Err(fault);
         }
-        let copy = Vec::from_slice(self.alloc, name)?;
-        self.parts.sorts.insert(copy)?;
+        put_name(self.alloc, &mut self.parts.sorts, name)?;
         Ok(number)
     }
 
@@ -72,8 +73,7 @@ impl Theory {
             return Err(fault);
         }
         let number = self.var_count();
-        let copy = Vec::from_slice(self.alloc, name)?;
-        self.parts.vars.insert(copy, sort)?;
+        put_var(self.alloc, &mut self.parts.vars, name, sort)?;
         Ok(number)
     }
 
@@ -90,17 +90,7 @@ impl Theory {
         let number = self.op_count();
         let key = self.new_key(&decl)?;
         let parts = &mut *self.parts;
-        let word = decl.form.first_word();
-        let sort = first_sort(decl.args.as_slice());
-        note_op(
-            self.alloc,
-            &mut parts.ops,
-            &mut parts.by_word,
-            word,
-            sort,
-            number,
-        )?;
-        put_op(&mut parts.ops, key, decl);
+        add_entry(self.alloc, &mut parts.ops, &mut parts.by_word, key, decl, number)?;
         Ok(number)
     }
 
@@ -124,9 +114,7 @@ impl Theory {
         let number = self.equation_count();
         let variables = self.new_variables(&left, &right, &conds)?;
         let rule = is_rule_with(exec, &left, variables.bound);
-        let parts = &mut *self.parts;
-        note_sorts(&mut parts.condition_sorts, conds.as_slice())?;
-        parts.equations.push(Listed {
+        let listed = Listed {
             equation: Equation {
                 left,
                 right,
@@ -135,7 +123,9 @@ impl Theory {
             },
             sorts: variables.sorts,
             rule,
-        })?;
+        };
+        let parts = &mut *self.parts;
+        put_listed(&mut parts.condition_sorts, &mut parts.equations, listed)?;
         Ok(number)
     }
 
@@ -154,8 +144,8 @@ impl Theory {
         let number = self.derivative_count();
         let (hole, sorts) = self.hole_and_params(&term)?;
         let parts = &mut *self.parts;
-        note_hole(&mut parts.derivatives, &mut parts.hidden, hole)?;
-        put_observer(&mut parts.derivatives, Observer { term, hole, sorts });
+        let observer = Observer { term, hole, sorts };
+        add_observer(&mut parts.derivatives, &mut parts.hidden, observer)?;
         Ok(number)
     }
 
@@ -168,12 +158,8 @@ impl Theory {
         ensures added { OnOk result (self.new ≡ with_cases self.old sort constants.items) }
         ensures err { OnErr result (self.new ≡ self.old) }
     {
-        let repeated = first_repeated(self.alloc, constants.as_slice())?;
-        if let Some(fault) = self.cases_fault(repeated, sort, constants.as_slice()) {
-            return Err(fault);
-        }
-        let number = self.case_count();
-        self.parts.cases.insert(sort, constants)?;
+        let number = self.new_cases(sort, constants.as_slice())?;
+        put_cases(&mut self.parts.cases, sort, constants)?;
         Ok(number)
     }
 
@@ -218,10 +204,97 @@ impl Theory {
         }
     }
 
+    // The number that a case list gets that can be added.
+    fn new_cases(&self, sort: u32, constants: &[u32]) -> Result<u32, TheoryFault>
+        ensures number { Numbers result (cases_fault self.now sort constants.now)
+            (length self.now.cases) }
+    {
+        let repeated = first_repeated(self.alloc, constants)?;
+        match self.cases_fault(repeated, sort, constants) {
+            Some(fault) => Err(fault),
+            None => Ok(self.case_count()),
+        }
+    }
+
     fn case_count(&self) -> u32
         ensures { result ≡ length self.now.cases }
     {
         self.parts.cases.len() as u32
+    }
+}
+
+// Keeps a name that is new.
+fn put_name(alloc: Global, sorts: &mut IndexSet<Vec<u8>>, name: &[u8]) -> Result<(), AllocError>
+    requires { position (pointwise nat_eq name.now) (map (λ k. k.items) sorts.old.keys) ≡ None }
+    ensures put { OnOk result (map (λ k. k.items) sorts.new.keys ≡
+        map (λ k. k.items) sorts.old.keys ++ name.now ∷ []) }
+    ensures err { OnErr result (sorts.new.keys ≡ sorts.old.keys) }
+{
+    let copy = Vec::from_slice(alloc, name)?;
+    sorts.insert(copy)?;
+    Ok(())
+}
+
+// Keeps a variable whose name is new.
+fn put_var(
+    alloc: Global,
+    vars: &mut IndexMap<Vec<u8>, u32>,
+    name: &[u8],
+    sort: u32,
+) -> Result<(), AllocError>
+    requires { position (λ d. pointwise nat_eq name.now d.name)
+        (map (λ e. declared e.0.items e.1) vars.old.entries) ≡ None }
+    ensures put { OnOk result (map (λ e. declared e.0.items e.1) vars.new.entries ≡
+        map (λ e. declared e.0.items e.1) vars.old.entries ++ declared name.now sort ∷ []) }
+    ensures err { OnErr result (vars.new.entries ≡ vars.old.entries) }
+{
+    let copy = Vec::from_slice(alloc, name)?;
+    vars.insert(copy, sort)?;
+    Ok(())
+}
+
+// Keeps the constants of a sort that has none.
+fn put_cases(
+    cases: &mut IndexMap<u32, Vec<u32>>,
+    sort: u32,
+    constants: Vec<u32>,
+) -> Result<(), AllocError>
+    ensures put { OnOk result (cases.new.entries ≡
+        insert_entry nat_eq cases.old.entries sort constants) }
+    ensures err { OnErr result (cases.new.entries ≡ cases.old.entries) }
+{
+    drop(cases.insert(sort, constants)?);
+    Ok(())
+}
+
+// Keeps an operator under its key, and its number under the first word of its form and the sort of
+// its first argument.
+fn add_entry(
+    alloc: Global,
+    ops: &mut IndexMap<OpKey, OpDecl>,
+    by_word: &mut IndexMap<Vec<u8>, Overloads>,
+    key: OpKey,
+    decl: OpDecl,
+    number: u32,
+) -> Result<(), AllocError>
+    ensures put { OnOk result (ops.new.entries ≡ insert_entry is_same_key ops.old.entries key decl) }
+    ensures noted { OnOk result (IsNoted by_word.old.entries by_word.new.entries
+        (first_word decl.form) (slice_get decl.args.items 0) number) }
+    ensures err_ops { OnErr result (ops.new.entries ≡ ops.old.entries) }
+    ensures err { OnErr result (IsKeptSo by_word.old.entries by_word.new.entries) }
+{
+    let word = decl.form.first_word();
+    let sort = first_sort(decl.args.as_slice());
+    match note_op(alloc, ops, by_word, word, sort, number) {
+        Ok(()) => {
+            put_op(ops, key, decl);
+            Ok(())
+        }
+        Err(fault) => {
+            drop(key);
+            drop(decl);
+            Err(fault)
+        }
     }
 }
 
@@ -255,6 +328,31 @@ fn put_op(ops: &mut IndexMap<OpKey, OpDecl>, key: OpKey, decl: OpDecl)
     }
 }
 
+// Keeps an equation, and the sorts of its conditions. After want of memory some of these are kept.
+fn put_listed(
+    kept: &mut IndexSet<u32>,
+    equations: &mut Vec<Listed>,
+    listed: Listed,
+) -> Result<(), AllocError>
+    ensures more { (s : ℕ) → list_any (nat_eq s) kept.old.keys ≡ true
+        → list_any (nat_eq s) kept.new.keys ≡ true }
+    ensures noted { OnOk result ((s : ℕ) → has_condition_of s listed.equation.conds ≡ true
+        → list_any (nat_eq s) kept.new.keys ≡ true) }
+    ensures put { OnOk result (equations.new.items ≡ equations.old.items ++ listed ∷ []) }
+    ensures err { OnErr result (equations.new.items ≡ equations.old.items) }
+{
+    match note_sorts(kept, listed.equation.conds.as_slice()) {
+        Ok(()) => {
+            equations.push(listed)?;
+            Ok(())
+        }
+        Err(fault) => {
+            drop(listed);
+            Err(fault)
+        }
+    }
+}
+
 // Keeps the sorts of conditions. After want of memory some of them are kept.
 fn note_sorts(kept: &mut IndexSet<u32>, conds: &[Pair]) -> Result<(), AllocError>
     ensures more { (s : ℕ) → list_any (nat_eq s) kept.old.keys ≡ true
@@ -266,6 +364,30 @@ fn note_sorts(kept: &mut IndexSet<u32>, conds: &[Pair]) -> Result<(), AllocError
         kept.insert(pair.left.sort())?;
     }
     Ok(())
+}
+
+// Keeps a derivative, and the sort of its hole.
+fn add_observer(
+    derivatives: &mut Vec<Observer>,
+    hidden: &mut IndexSet<u32>,
+    observer: Observer,
+) -> Result<(), AllocError>
+    ensures put { OnOk result (derivatives.new.items ≡ derivatives.old.items ++ observer ∷ []) }
+    ensures noted { OnOk result (hidden.new.keys ≡
+        insert_key nat_eq hidden.old.keys observer.hole) }
+    ensures err_put { OnErr result (derivatives.new.items ≡ derivatives.old.items) }
+    ensures err { OnErr result (hidden.new.keys ≡ hidden.old.keys) }
+{
+    match note_hole(derivatives, hidden, observer.hole) {
+        Ok(()) => {
+            put_observer(derivatives, observer);
+            Ok(())
+        }
+        Err(fault) => {
+            drop(observer);
+            Err(fault)
+        }
+    }
 }
 
 // Makes room for a derivative, and keeps the sort of its hole.

@@ -5,9 +5,10 @@ ghost use Rattle.circ_theory.specs.Operators.{operator_of};
 ghost use Rattle.circ_theory.specs.Adding.{Numbers, IsFaultOf, op_fault, old_var_fault};
 ghost use Rattle.circ_theory.specs.Adding.{new_var_fault, unknown_sort, equation_fault};
 ghost use Rattle.circ_theory.specs.Adding.{hidden_condition};
-ghost use Rattle.circ_theory.specs.Pairs.{plain_pair};
-ghost use Rattle.circ_theory.specs.Observing.{has_condition_of, is_condition_sort};
-ghost use Rattle.circ_theory.specs.Observing.{holes_in, parameter_sorts_in, first_repeated};
+ghost use Rattle.circ_pairs.specs.Pairs.{plain_pair};
+ghost use Rattle.circ_pairs.specs.Pair.{has_condition_of};
+ghost use Rattle.circ_theory.specs.Observing.{is_condition_sort};
+ghost use Rattle.circ_pairs.specs.Slots.{holes_in, parameter_sorts_in, first_repeated};
 ghost use Rattle.circ_theory.specs.Observing.{first_or_zero, slots_fault, derivative_fault};
 ghost use Rattle.circ_theory.specs.Observing.{cases_fault, is_constant, no_constants};
 ghost use Rattle.circ_theory.specs.Inside.{IsKeyOf};
@@ -15,13 +16,12 @@ ghost use Rattle.circ_theory.specs.Inside.{IsKeyOf};
 use super::{Listed, OpKey, Theory};
 use crate::adding::{count_fault, first_from, first_or_zero, is_ill_sorted, long_fault};
 use crate::fault::TheoryFault;
-use crate::observing::{Slots, first_repeated, slots_of};
-use crate::pairs::{Pair, Pairs, has_condition_of};
 use crate::parts::OpDecl;
 use crate::{
     MOST_ARGS, MOST_CASES, MOST_CONDITIONS, MOST_DERIVATIVES, MOST_EQUATIONS, MOST_OPS,
     MOST_PARAMS, MOST_VARS,
 };
+use circ_pairs::{Pair, Pairs, Slots, first_repeated, has_condition_of, slots_of};
 use circ_term::{MOST_NODES, Term};
 use std::alloc::{AllocError, Global};
 
@@ -142,11 +142,28 @@ impl Theory {
     {
         term.known();
         let slots = slots_of(self.alloc, term)?;
-        let repeated = first_repeated(self.alloc, slots.params.as_slice())?;
-        if let Some(fault) = self.derivative_fault(repeated, &slots) {
-            return Err(fault);
+        match self.new_slots(&slots) {
+            Ok(hole) => Ok((hole, slots.sorts)),
+            Err(fault) => {
+                drop(slots);
+                Err(fault)
+            }
         }
-        Ok((first_or_zero(slots.holes.as_slice()), slots.sorts))
+    }
+
+    // The sort of the hole of a term that can be added as a derivative, by its holes and parameters.
+    fn new_slots(&self, slots: &Slots) -> Result<u32, TheoryFault>
+        requires { length slots.now.holes.items ≤ MOST_NODES }
+        ensures { Numbers result
+            (slots_fault self.now (first_repeated slots.now.params.items) slots.now.holes.items
+            (length slots.now.params.items))
+            (first_or_zero slots.now.holes.items) }
+    {
+        let repeated = first_repeated(self.alloc, slots.params.as_slice())?;
+        match self.derivative_fault(repeated, slots) {
+            Some(fault) => Err(fault),
+            None => Ok(first_or_zero(slots.holes.as_slice())),
+        }
     }
 
     fn derivative_fault(&self, repeated: Option<u32>, slots: &Slots) -> Option<TheoryFault>

@@ -5,20 +5,22 @@ ghost use Rattle.std.specs.List.{slice_get, list_any};
 ghost use Rattle.std.specs.Option.{option_copied, option_map, option_map_or};
 ghost use Rattle.circ_theory.specs.Limits.{sort_limit, variable_limit, operator_limit};
 ghost use Rattle.circ_theory.specs.Limits.{equation_limit, derivative_limit};
-ghost use Rattle.circ_theory.specs.Theory.{goal_of, declared, IsHidden, HasNoConditions};
-ghost use Rattle.circ_theory.specs.Variables.{sorts_of};
+ghost use Rattle.circ_pairs.specs.Goal.{goal_of};
+ghost use Rattle.circ_theory.specs.Theory.{declared, IsHidden, HasNoConditions};
+ghost use Rattle.circ_pairs.specs.Variables.{sorts_of};
 ghost use Rattle.circ_theory.specs.Operators.{operator_of, ops_by_word, ops_by_word_and_sort};
 ghost use Rattle.circ_theory.specs.Operators.{AreDifferentOperators};
 ghost use Rattle.circ_theory.specs.Adding.{sort_number, var_number, op_of_form};
 ghost use Rattle.circ_theory.specs.Names.{AreDifferent, names_of};
-ghost use Rattle.circ_theory.specs.Rule.{is_rule, is_conditional};
+ghost use Rattle.circ_pairs.specs.Rule.{is_rule, is_conditional};
 ghost use Rattle.circ_theory.specs.Observing.{derivative_with, cases_of, is_hidden};
-ghost use Rattle.circ_theory.specs.Observing.{parameter_sorts_in};
+ghost use Rattle.circ_pairs.specs.Slots.{parameter_sorts_in};
 ghost use Rattle.circ_theory.specs.Fresh.{parameter_sorts};
 
 use super::{Listed, Observer, OpKey, Theory};
-use crate::parts::{Equation, OpDecl};
+use crate::parts::OpDecl;
 use circ_form::Form;
+use circ_pairs::Equation;
 use circ_term::Term;
 use std::alloc::AllocError;
 
@@ -278,7 +280,9 @@ impl Theory {
             form: form.spell(self.alloc)?,
             args: Vec::from_slice(self.alloc, args)?,
         };
-        match self.parts.ops.get_index_of(&key) {
+        let found = self.parts.ops.get_index_of(&key);
+        drop(key);
+        match found {
             Some(number) => Ok(Some(number as u32)),
             None => Ok(None),
         }

@@ -1,6 +1,6 @@
 use Rattle.std.proofs.Common.{◌≡◌, ◌++◌, ◌+◌, ℕ, List, map, drop, length, inl, ap, sym, subst, ◌∙◌, arith, length-append}
 use Rattle.std.proofs.lemmas.List.{length-map}
-use Rattle.circ_theory.specs.declared.parts.Goal.{Goal}
+use Rattle.circ_theory.specs.Goal.{Goal}
 use Rattle.circ_proof.specs.Plain.{plain_links}
 use Rattle.circ_proof.specs.PlainProof.{plain_state, plain_step, plain_block, plain_proof}
 use Rattle.circ_check.proofs.Standing.{BlocksStandAt, blocks_read, blocks_end, blocks_next, block_done, fails_counted, behind, grown}

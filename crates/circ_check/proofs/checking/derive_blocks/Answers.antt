@@ -1,5 +1,5 @@
 use Rattle.std.proofs.Common.{◌≡◌, ◌++◌, ◌+◌, List, map, drop, length, ap, sym, subst, ◌∙◌, arith, length-append}
-use Rattle.circ_theory.specs.declared.parts.Goal.{Goal}
+use Rattle.circ_theory.specs.Goal.{Goal}
 use Rattle.circ_proof.specs.PlainProof.{plain_state, plain_block, plain_proof}
 use Rattle.circ_check.specs.Deciding.{plain_list}
 use Rattle.circ_check.proofs.Standing.{DerivesSoFar, must_run, derives_next, derives_read, derives_end, behind, derived_behind, grown}

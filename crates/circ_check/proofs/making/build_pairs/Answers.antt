@@ -1,6 +1,6 @@
 use Rattle.std.proofs.Common.{get_or, ap, sym, ◌∙◌}
 use Rattle.circ_theory.specs.Theory.{pair_with}
-use Rattle.circ_theory.specs.declared.pairs.Pair.{Pair}
+use Rattle.circ_theory.specs.Pairs.{PairOfTerms as Pair}
 use Rattle.circ_nodes.specs.Named.{tree_at}
 use Rattle.circ_nodes.proofs.Located.{named_tree}
 use Rattle.circ_check.proofs.Named.{pairs_made, read_at}

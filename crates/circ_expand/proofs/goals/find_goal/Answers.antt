@@ -1,5 +1,5 @@
 use Rattle.std.proofs.Common.{◌≡◌, ◌≤◌, ◌<◌, ◌+◌, ◌-◌, List, length, get_or, ap, sym, ◌∙◌, subst}
-use Rattle.circ_theory.specs.declared.parts.Goal.{Goal}
+use Rattle.circ_theory.specs.Goal.{Goal}
 use Rattle.circ_expansion.proofs.Numbers.{from_block, here_found, later_found}
 use Rattle.circ_expand.proofs.goals.find_goal.Goals as goal
 

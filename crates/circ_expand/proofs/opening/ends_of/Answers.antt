@@ -1,6 +1,6 @@
 use Rattle.std.proofs.Common.{subst}
 use Rattle.circ_term.specs.Tree.{Tree}
-use Rattle.circ_theory.specs.declared.parts.Goal.{Goal}
+use Rattle.circ_theory.specs.Goal.{Goal}
 use Rattle.circ_entry.specs.Entries.{bare_entries}
 use Rattle.circ_uses.specs.Uses.{entries_of}
 use Rattle.circ_tasks.specs.Tasks.{EndsIn}

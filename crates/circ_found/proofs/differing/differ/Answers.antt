@@ -1,5 +1,5 @@
 use Rattle.std.proofs.Common.{List, map}
-use Rattle.circ_theory.specs.declared.parts.Goal.{Goal}
+use Rattle.circ_theory.specs.Goal.{Goal}
 use Rattle.circ_refute.specs.PlainRefutation.{Decision, goals_in}
 use Rattle.circ_refute.specs.Plain.{plain_decision}
 use Rattle.circ_found.proofs.Fitting.{answered, right_entries}

@@ -2,7 +2,7 @@ use Rattle.std.proofs.Common.{◌≡◌, ◌∙◌, List, [], ap, map, length, a
 use Rattle.std.proofs.lemmas.List.{length-map}
 use Rattle.circ_term.specs.Tree.{Tree}
 use Rattle.circ_term.proofs.Limits.{within_limits}
-use Rattle.circ_theory.specs.declared.renumber.Occurring.{Occurring}
+use Rattle.circ_theory.specs.Occurring.{Occurring}
 use Rattle.circ_theory.specs.Occurring.{variable_of}
 use Rattle.circ_theory.proofs.Numbering.{length-seen_in}
 use Rattle.circ_theory.specs.Variables.{seen_in}

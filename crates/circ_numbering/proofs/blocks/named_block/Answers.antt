@@ -3,7 +3,7 @@ use Rattle.std.specs.Prelude.{flat_map}
 use Rattle.circ_proof.specs.PlainProof.{plain_names, plain_steps}
 use Rattle.circ_proof.specs.Proof.{GoalNames, Block}
 use Rattle.circ_proof.specs.Rules.{ProofStep}
-use Rattle.circ_theory.specs.declared.parts.Goal.{Goal}
+use Rattle.circ_theory.specs.Goal.{Goal}
 use Rattle.circ_plain_search.specs.Numbering.{goal_terms, goal_name, step_terms}
 use Rattle.circ_numbering.proofs.Requests.{first_fails, second_fails, both_asked, later_too}
 use Rattle.circ_numbering.proofs.blocks.named_block.Goals as goal

@@ -1,6 +1,6 @@
 use Rattle.std.proofs.Common.{◌≡◌, [], List, Ok, Err, map, ap, ◌∙◌}
 use Rattle.circ_theory.specs.Pairs.{plain_pair}
-use Rattle.circ_theory.specs.declared.pairs.Pair.{Pair}
+use Rattle.circ_theory.specs.Pairs.{PairOfTerms as Pair}
 use Rattle.circ_expansion.specs.Expand.{basis, link_setting}
 use Rattle.circ_tasks.specs.Settings.{setting_of}
 use Rattle.circ_tasks.specs.Tasks.{basis_of, background_in, certificate_setting}

@@ -1,6 +1,6 @@
 use Rattle.std.proofs.Common.{◌≡◌, List, [], length, take, ap, sym, subst, ◌∙◌, arith}
 use Rattle.std.proofs.lemmas.List.{take_at}
-use Rattle.circ_theory.specs.declared.parts.Goal.{Goal}
+use Rattle.circ_theory.specs.Goal.{Goal}
 use Rattle.circ_block.specs.Rules.{IsRulesOf}
 use Rattle.circ_attempt.specs.Rules.{lemmas_of}
 use Rattle.circ_attempt.specs.Search.{going}

@@ -1,5 +1,5 @@
 use Rattle.std.proofs.Common.{◌≡◌, List, [], ap, sym, ◌∙◌, subst}
-use Rattle.circ_theory.specs.declared.parts.Goal.{Goal}
+use Rattle.circ_theory.specs.Goal.{Goal}
 use Rattle.circ_plain_search.specs.Search.{Standing, Ending, All_done}
 use Rattle.circ_attempt.specs.Attempt.{Stood}
 use Rattle.circ_attempt.specs.RewritingSearch.{ComesRewriting, here_so, further_so}

@@ -1,6 +1,6 @@
 use Rattle.std.proofs.Common.{List, drop, ap, subst, ◌∙◌}
 use Rattle.circ_term.specs.Tree.{Tree}
-use Rattle.circ_theory.specs.declared.parts.Goal.{Goal}
+use Rattle.circ_theory.specs.Goal.{Goal}
 use Rattle.circ_proof.specs.Plain.{WhyOf, Same_why, plain_chain}
 use Rattle.circ_plain_search.specs.Search.{chained}
 use Rattle.circ_conditional_search.specs.Search.{goal_reduced}

@@ -1,5 +1,5 @@
 use Rattle.std.proofs.Common.{List, map}
-use Rattle.circ_theory.specs.declared.parts.Goal.{Goal}
+use Rattle.circ_theory.specs.Goal.{Goal}
 use Rattle.circ_search.proofs.proving.search_with.Goals as goal
 
 pub search_from-found-requires-clause-start : goal.search_from-found-requires-clause-start

@@ -3,7 +3,8 @@ use Rattle.circ_spelling.proofs.May.{leads_on, leads_end}
 use Rattle.circ_spelling.proofs.reached.row_ends.Goals as goal
 
 pub loop-place-init : goal.loop-place-init
-loop-place-init c = λ j h. record { place = c.args.from; low = omega arith; has = c.with-reached.ensures.here; rest = h }
+loop-place-init c = λ j h.
+    let x = c.front_at-front.ensures.leads j h in record { place = x.0; low = x.1; has = x.2; rest = x.3 }
 
 pub loop-place-preserved : goal.loop-place-preserved
 loop-place-preserved c = λ j h.

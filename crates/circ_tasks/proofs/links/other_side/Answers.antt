@@ -6,7 +6,7 @@ use Rattle.circ_theory.specs.Theory.{goal as goal_with, sides}
 use Rattle.circ_theory.specs.Pairs.{plain_pair}
 use Rattle.circ_theory.specs.Rewriting.{by_terms, to_side}
 use Rattle.circ_theory.specs.Variables.{given}
-use Rattle.circ_theory.specs.declared.parts.Goal.{Goal}
+use Rattle.circ_theory.specs.Goal.{Goal}
 use Rattle.circ_uses.specs.Valuations.{by_of}
 use Rattle.circ_uses.proofs.Holes.{same_by}
 use Rattle.circ_tasks.proofs.links.other_side.Goals as goal

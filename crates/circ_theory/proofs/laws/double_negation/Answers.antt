@@ -1,8 +1,9 @@
 use Rattle.std.proofs.Common.{[], true, refl, arith}
 use Rattle.circ_term.specs.Tree.{Tree, Var, App, none}
-use Rattle.circ_theory.specs.declared.parts.Equation.{Equation}
+use Rattle.circ_pairs.specs.declared.goals.Equation.{Equation}
 use Rattle.circ_theory.specs.Signature.{IsWellSorted, IsSubstitution}
-use Rattle.circ_theory.specs.Theory.{goal_of, listed}
+use Rattle.circ_pairs.specs.Goal.{goal_of}
+use Rattle.circ_theory.specs.Theory.{listed}
 use Rattle.circ_theory.specs.Derivable.{Derivable, by_chain, by_operator, by_equation, more_args, no_args}
 use Rattle.circ_theory.specs.Examples.{bits, zero_bit, negation}
 use Rattle.circ_theory.proofs.laws.double_negation.Goals as goal

@@ -1,6 +1,6 @@
 use Rattle.std.proofs.Common.{◌≡◌, ◌∷◌, ◌+◌, List, drop}
 use Rattle.circ_term.proofs.Within.{drop_read}
-use Rattle.circ_theory.specs.declared.parts.Goal.{Goal}
+use Rattle.circ_theory.specs.Goal.{Goal}
 use Rattle.circ_trace.proofs.Listing.{one_line}
 use Rattle.circ_trace.proofs.lines.put_hypotheses.Goals as goal
 

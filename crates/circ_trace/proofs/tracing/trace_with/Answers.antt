@@ -1,5 +1,5 @@
 use Rattle.std.proofs.Common.{List, map}
-use Rattle.circ_theory.specs.declared.parts.Goal.{Goal}
+use Rattle.circ_theory.specs.Goal.{Goal}
 use Rattle.circ_trace.proofs.tracing.trace_with.Goals as goal
 
 pub trace_from-requires-clause-start : goal.trace_from-requires-clause-start

@@ -1,7 +1,7 @@
 use Rattle.std.proofs.Common.{◌≡◌, ◌∷◌, [], ◌++◌, List, drop, sym, subst}
 use Rattle.std.specs.Prelude.{OnOk}
 use Rattle.circ_term.proofs.Within.{drop_read}
-use Rattle.circ_theory.specs.declared.parts.Goal.{Goal}
+use Rattle.circ_theory.specs.Goal.{Goal}
 use Rattle.circ_turn.specs.Standing.{standing}
 use Rattle.circ_turn.proofs.Earlier.{none_there}
 use Rattle.circ_trace.specs.Account.{plain_account_if}

@@ -1,20 +1,13 @@
 use Rattle.std.proofs.Common.{◌∙◌, ap}
 use Rattle.std.proofs.lemmas.Result.{err_from_is_err_and}
-use Rattle.circ_turn.specs.Standing.{standing, manner_of, conduct_with}
+use Rattle.circ_turn.specs.Standing.{standing, conduct_with}
 use Rattle.circ_trace.specs.Descents.{given_row}
 use Rattle.circ_trace.specs.Telling.{IsTold}
 use Rattle.circ_trace.proofs.Telling.{memory_ends}
-use Rattle.circ_trace.proofs.Turning.{first_read}
 use Rattle.circ_trace.proofs.turns.run_turns.Goals as goal
 
-pub turns-done-requires-clause-passes : goal.turns-done-requires-clause-passes
-turns-done-requires-clause-passes c = λ _.
-    first_read c.args.search.now.theory.now (manner_of c.args.search.now).limits c.requires.start.blocks (standing c.args.state.now) c.new-passes.result
-    c.requires.start.start c.new-passes.ensures.lemmas c.new-passes.ensures.own c.new-passes.ensures.count
-    (c.new-passes.ensures.script ∙ c.len.ensures ∙ c.args.state.now.goals.ok.0)
-
-pub turns-done-requires-clause-waiting : goal.turns-done-requires-clause-waiting
-turns-done-requires-clause-waiting c = c.in_ok-waiting.ensures ∙ ap given_row c.as_slice.ensures.value
+pub first_turns-requires-clause-waiting : goal.first_turns-requires-clause-waiting
+first_turns-requires-clause-waiting c = c.in_ok-waiting.ensures ∙ ap given_row c.as_slice.ensures.value
 
 pub returns-in_err-waiting : goal.returns-in_err-waiting
 returns-in_err-waiting c =

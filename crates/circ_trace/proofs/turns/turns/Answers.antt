@@ -1,6 +1,6 @@
 use Rattle.std.proofs.Common.{◌≡◌, List, [], ap, sym, ◌∙◌, subst}
 use Rattle.std.proofs.lemmas.Result.{err_from_is_err_and}
-use Rattle.circ_theory.specs.declared.parts.Goal.{Goal}
+use Rattle.circ_theory.specs.Goal.{Goal}
 use Rattle.circ_plain_search.specs.Search.{Standing, Ending, All_done}
 use Rattle.circ_attempt.specs.Attempt.{Stood}
 use Rattle.circ_attempt.specs.RewritingSearch.{ComesRewriting, here_so, further_so}
@@ -33,6 +33,12 @@ loop-rules-init c =
       told = subst R (sym c.requires.passed) (subst Q (sym c.requires.waiting) (from_start th G m st old));
     }
 
+pub tell-requires-clause-rules : goal.tell-requires-clause-rules
+tell-requires-clause-rules c = c.loop-rules.invariant.rules
+
+pub tell-requires-clause-passes : goal.tell-requires-clause-passes
+tell-requires-clause-passes c = c.loop-rules.invariant.passes
+
 pub tell-requires-clause-small : goal.tell-requires-clause-small
 tell-requires-clause-small c =
     let th = c.args.search.now.theory.now in
@@ -41,6 +47,12 @@ tell-requires-clause-small c =
     let P : Standing → Type 0 = λ x. ComesRewriting th G m (going x []) (going (standing c.loop-rules.state) c.loop-rules.passed) in
     c.standings_are_small.ensures th c.known.ensures G m c.requires.start.blocks c.requires.start.searchable (going (standing c.loop-rules.state) c.loop-rules.passed)
     (subst P c.requires.start.start c.loop-rules.invariant.comes)
+
+pub next_turn-requires-clause-rules : goal.next_turn-requires-clause-rules
+next_turn-requires-clause-rules c = c.tell.ensures.rules
+
+pub next_turn-requires-clause-passes : goal.next_turn-requires-clause-passes
+next_turn-requires-clause-passes c = c.loop-rules.invariant.passes
 
 pub next_turn-requires-clause-derived : goal.next_turn-requires-clause-derived
 next_turn-requires-clause-derived c =

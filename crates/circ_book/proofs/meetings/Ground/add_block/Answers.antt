@@ -1,6 +1,6 @@
 use Rattle.std.proofs.Common.{◌≡◌, ℕ, List, length, map, ap, sym, subst, ◌∙◌, arith}
 use Rattle.circ_theory.specs.Rewriting.{named}
-use Rattle.circ_theory.specs.declared.parts.Goal.{Goal}
+use Rattle.circ_theory.specs.Goal.{Goal}
 use Rattle.circ_proof.specs.PlainProof.{plain_steps}
 use Rattle.circ_proof.specs.Rules.{state, ProofStep, map_step, IsSortedState}
 use Rattle.circ_proof.specs.declared.proof.Step.{Step}

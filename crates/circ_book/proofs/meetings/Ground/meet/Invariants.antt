@@ -1,7 +1,7 @@
 use Rattle.std.proofs.Common.{◌≡◌, ◌<◌, ◌++◌, [], List, map, drop, length}
 use Rattle.std.specs.List.{AllByRecursion}
 use Rattle.circ_theory.specs.Rewriting.{named}
-use Rattle.circ_theory.specs.declared.parts.Goal.{Goal}
+use Rattle.circ_theory.specs.Goal.{Goal}
 use Rattle.circ_proof.specs.PlainProof.{plain_state, plain_steps}
 use Rattle.circ_proof.specs.Proof.{IsPlainStep}
 use Rattle.circ_proof.specs.Rules.{state, map_step, AllOfStep, IsSortedState, StepsOf}

@@ -4,7 +4,7 @@ use Rattle.std.proofs.lemmas.List.{length-map, length-append, drop_all}
 use Rattle.circ_term.specs.Tree.{Tree}
 use Rattle.circ_term.proofs.Within.{drop_read}
 use Rattle.circ_theory.specs.Rewriting.{named}
-use Rattle.circ_theory.specs.declared.parts.Goal.{Goal}
+use Rattle.circ_theory.specs.Goal.{Goal}
 use Rattle.circ_special.specs.declared.place.Place.{Place}
 use Rattle.circ_proof.specs.PlainProof.{plain_proof, plain_block, plain_step, plain_steps}
 use Rattle.circ_proof.specs.Proof.{Block, IsBlockFor, IsPlainBlock, steps_in}

@@ -1,6 +1,6 @@
 use Rattle.std.proofs.Common.{◌≡◌, ◌≤◌, ◌+◌, List, map, drop, length}
 use Rattle.std.specs.List.{AllByRecursion}
-use Rattle.circ_theory.specs.declared.parts.Goal.{Goal}
+use Rattle.circ_theory.specs.Goal.{Goal}
 use Rattle.circ_proof.specs.Goals.{AreSortedGoals}
 use Rattle.circ_proof.specs.PlainProof.{plain_proof, plain_block}
 use Rattle.circ_proof.specs.Proof.{IsBlockFor, IsPlainBlock, steps_in}

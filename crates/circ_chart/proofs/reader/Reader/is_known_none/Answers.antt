@@ -10,11 +10,11 @@ pub returns-then-not-may_spell : goal.returns-then-not-may_spell
 returns-then-not-may_spell c =
     let a = c.args in
     let r = a.self.now in
-    λ e x h. c.may_spell.ensures c.if-not-may_spell.true (may_reads r.grammar.now r.tokens.now r.starts.now a.wanted.below a.wanted.sort a.from a.to x h c.requires.starts c.requires.words)
+    λ e x h. c.may_spell.ensures c.if-not-may_spell.true (may_reads r.grammar.now r.tokens.now r.starts.now a.wanted.below a.wanted.sort a.from a.to x h c.requires.ready.starts c.requires.ready.words)
 
 pub returns : goal.returns
 returns c =
     let a = c.args in
     let r = a.self.now in
     λ e x h. none_of (Reads r.grammar.now r.tokens.now a.wanted.below a.wanted.sort a.from a.to)
-    (listed_answer r.grammar.now r.tokens.now a.memo.now.entries.items (OfTerm a.wanted.sort a.wanted.below) a.from a.to Empty c.requires.memo (c.has_none.ensures e)).enough x h
+    (listed_answer r.grammar.now r.tokens.now a.memo.now.entries.items (OfTerm a.wanted.sort a.wanted.below) a.from a.to Empty c.requires.ready.memo (c.has_none.ensures e)).enough x h

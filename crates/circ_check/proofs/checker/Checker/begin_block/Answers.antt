@@ -4,7 +4,7 @@ use Rattle.circ_term.specs.Growing.{Grows}
 use Rattle.circ_term.specs.Tree.{Tree}
 use Rattle.circ_proof.specs.Parts.{Goals}
 use Rattle.circ_proof.specs.PlainProof.{plain_names}
-use Rattle.circ_theory.specs.declared.parts.Goal.{Goal}
+use Rattle.circ_theory.specs.Goal.{Goal}
 use Rattle.circ_proof.specs.Proof.{goal_at as named_goal}
 use Rattle.circ_nodes.specs.Named.{tree_at}
 use Rattle.circ_nodes.specs.Built.{AreBuilt}

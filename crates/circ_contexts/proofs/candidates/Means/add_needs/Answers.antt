@@ -7,4 +7,4 @@ returns-clause-taken c = λ e.
     let th = c.args.self.now.theory.now in
     let s = c.args.start.now in
     adds_needs th c.args.self.now.budget s.place s.sort c.args.needs.now c.add.new.self c.in-Some.normal (slice_get th.derivatives c.args.derivative)
-    (rw c.in-Some.is at c.in_ok-normal.ensures.exact) (rw c.requires.observers at c.in_ok-add.ensures)
+    (rw c.in-Some.is at c.in_ok-normal.ensures.exact) (rw c.requires.observers at c.in_ok-add.ensures.added)

@@ -3,7 +3,7 @@ use Rattle.std.specs.List.{slice_get}
 use Rattle.std.proofs.lemmas.Option.{same_Some, slice_get_read}
 use Rattle.circ_term.specs.Subst.{substitution_of}
 use Rattle.circ_theory.specs.Pairs.{plain_pair}
-use Rattle.circ_theory.specs.declared.parts.Goal.{Goal}
+use Rattle.circ_theory.specs.Goal.{Goal}
 use Rattle.circ_rewrite.specs.Plain.{plain_passes}
 use Rattle.circ_join.specs.Binding.{BindsRest, have_pair_variable}
 use Rattle.circ_join.specs.Trying.{normaliser_of}

@@ -81,7 +81,8 @@ all_below-loop-i-preserved t c =
       same = path_kept len i c.args.path.now c.loop-i.path c.arg_below.new.path c.loop-i.invariant.same c.arg_below.ensures.same;
       long = search (rules, c.arg_below.ensures.long, c.loop-i.invariant.long);
       owes = rw c.greater-owed.ensures (owes_next a q i c.args.op here.0 c.args.args.now arg (subst Q here.1 c.requires.there) read c.loop-i.owed c.in_ok-steps.steps c.in_ok-steps-2.steps old c.loop-i.needs mid new
-          c.loop-i.invariant.owes (subst P path c.in_ok-steps.ensures.exact) (subst R (sym long) c.in_ok-steps-2.ensures));
+          c.loop-i.invariant.owes (subst P path c.in_ok-steps.ensures.exact) (subst R (sym long) c.in_ok-steps-2.ensures.passes));
+      kept = λ G h. c.loop-i.invariant.kept G (c.arg_below.ensures.kept G (c.pass.ensures.kept G h));
     }
 
 pub all_below-returns-clause-exact : goal.all_below-returns-clause-exact
@@ -100,3 +101,9 @@ all_below-returns-in_err-steps-clause-same t c =
 pub all_below-returns-in_err-steps-2-clause-same : goal.all_below-returns-in_err-steps-2-clause-same
 all_below-returns-in_err-steps-2-clause-same t c =
     path_kept c.args.len c.loop-i.i c.args.path.now c.loop-i.path c.arg_below.new.path c.loop-i.invariant.same c.arg_below.ensures.same
+
+pub all_below-returns-in_err-steps-clause-kept : goal.all_below-returns-in_err-steps-clause-kept
+all_below-returns-in_err-steps-clause-kept t c = λ G h. c.loop-i.invariant.kept G (c.arg_below.ensures.kept G h)
+
+pub all_below-returns-in_err-steps-2-clause-kept : goal.all_below-returns-in_err-steps-2-clause-kept
+all_below-returns-in_err-steps-2-clause-kept t c = λ G h. c.loop-i.invariant.kept G (c.arg_below.ensures.kept G (c.pass.ensures.kept G h))

@@ -1,5 +1,6 @@
 use Rattle.std.proofs.Common.{◌≡◌, ◌+◌, ◌*◌, length, take}
 use Rattle.circ_term.specs.Tree.{depth_of, depths_of, trees_of}
+use Rattle.circ_needs.specs.Needs.{NoneLost}
 use Rattle.circ_needs.specs.Owing.{OwesTo}
 use Rattle.circ_needs.proofs.walking.Asked.+below.Given as goal
 
@@ -8,6 +9,7 @@ invariant-all_below-loop-i l = record {
   same : take l.len l.path ≡ take l.len l.initial.path;
   long : length l.path ≡ length l.initial.path;
   owes : OwesTo l.self (take l.len l.initial.path) l.initial.needs l.needs l.args l.i l.owed;
+  kept : NoneLost l.initial.needs l.needs;
 }
 
 abbrev pub decreases-below : goal.decreases-below

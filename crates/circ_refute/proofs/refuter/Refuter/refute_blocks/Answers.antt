@@ -1,7 +1,7 @@
 use Rattle.std.proofs.Common.{◌≡◌, ◌+◌, List, map, drop, ap, sym, ◌∙◌, subst, arith}
 use Rattle.std.specs.List.{AllByRecursion}
 use Rattle.circ_theory.specs.Theory.{Theory}
-use Rattle.circ_theory.specs.declared.parts.Goal.{Goal}
+use Rattle.circ_theory.specs.Goal.{Goal}
 use Rattle.circ_plain_search.specs.PlainSearch.{IsSearchable}
 use Rattle.circ_refute.specs.PlainRefutation.{Decision, refutations, unless_alike, goals_in}
 use Rattle.circ_refute.specs.Plain.{plain_decision, plain_refuted}

@@ -8,7 +8,7 @@ use Rattle.circ_theory.specs.Observing.{cases_of, case_list}
 use Rattle.circ_theory.proofs.Rewriting.{named_at}
 use Rattle.circ_proof.specs.Plain.{WhyOf, map_whys, plain_why, plain_whys, plain_chain}
 use Rattle.circ_theory.specs.Pairs.{plain_pair}
-use Rattle.circ_theory.specs.declared.pairs.Pair.{Pair as PairOfTerms}
+use Rattle.circ_theory.specs.Pairs.{PairOfTerms}
 use Rattle.circ_proof.specs.Link.{Setting, resolved_chain, resolved_why}
 use Rattle.circ_proof.specs.Justified.{Justified, EachJustified, IsWhyInTable}
 use Rattle.circ_replay.specs.Sources.{setting_of}

@@ -4,7 +4,7 @@ use Rattle.circ_term.specs.Tree.{Tree, sort_of}
 use Rattle.circ_theory.specs.Limits.{condition_limit}
 use Rattle.circ_theory.specs.Observing.{cases_of}
 use Rattle.circ_theory.specs.Rewriting.{named}
-use Rattle.circ_theory.specs.declared.parts.Goal.{Goal}
+use Rattle.circ_theory.specs.Goal.{Goal}
 use Rattle.circ_proof.specs.Rules.{State, Cases, StepOf}
 use Rattle.circ_nodes.specs.Named.{tree_at}
 use Rattle.circ_rules.proofs.Splitting.{splits}

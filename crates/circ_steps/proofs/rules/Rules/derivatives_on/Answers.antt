@@ -3,7 +3,7 @@ use Rattle.std.specs.List.{slice_get}
 use Rattle.std.specs.Option.{IfSome, option_map_or}
 use Rattle.circ_term.specs.Tree.{sort_of}
 use Rattle.circ_theory.specs.Theory.{IsWellSortedGoal}
-use Rattle.circ_theory.specs.declared.parts.Goal.{Goal}
+use Rattle.circ_theory.specs.Goal.{Goal}
 use Rattle.circ_theory.specs.Fresh.{fresh_in}
 use Rattle.circ_theory.specs.Variables.{sorted, variables_of}
 use Rattle.circ_nodes.proofs.Located.{tree_later}

@@ -2,7 +2,7 @@ use Rattle.std.proofs.Common.{List, map, sym, subst, ◌∙◌}
 use Rattle.circ_term.specs.Tree.{sort_of}
 use Rattle.circ_theory.specs.Theory.{IsHidden, IsWellSortedGoal}
 use Rattle.circ_theory.specs.Fresh.{derivatives_of}
-use Rattle.circ_theory.specs.declared.parts.Goal.{Goal}
+use Rattle.circ_theory.specs.Goal.{Goal}
 use Rattle.circ_nodes.proofs.Numbers.{grows_more}
 use Rattle.circ_rules.specs.Derivatives.{NamesCause, first_cause}
 use Rattle.circ_rules.proofs.Simplifying.{front_sorted}

@@ -1,6 +1,6 @@
 use Rattle.std.proofs.Common.{List, Some, None, map, sym, subst}
 use Rattle.circ_theory.specs.Theory.{Pair}
-use Rattle.circ_theory.specs.declared.parts.Goal.{Goal}
+use Rattle.circ_theory.specs.Goal.{Goal}
 use Rattle.circ_proof.specs.Plain.{plain_chain}
 use Rattle.circ_proof.specs.Link.{setting, resolved_chain}
 use Rattle.circ_proof.specs.Rules.{State, Simplify, StepOf}

@@ -1,5 +1,5 @@
 use Rattle.std.proofs.Common.{List, map, ap, ◌∙◌}
-use Rattle.circ_theory.specs.declared.parts.Goal.{Goal}
+use Rattle.circ_theory.specs.Goal.{Goal}
 use Rattle.circ_theory.specs.Pairs.{plain_pair}
 use Rattle.circ_proof.specs.Link.{setting}
 use Rattle.circ_tasks.specs.Settings.{goals_at}

@@ -6,21 +6,21 @@ use Rattle.circ_theory.specs.Observing.{case_list}
 use Rattle.circ_theory.proofs.Lists.{insert_entry-last, map-push}
 use Rattle.circ_theory.proofs.Observers.{IsNewList, new_list, absent_entry, cases_grow}
 use Rattle.circ_theory.proofs.theories.Theory.add_cases.Goals as goal
-use Rattle.circ_theory.proofs.theories.Theory.add_cases.Goals.{Joined-branch-3}
+use Rattle.circ_theory.proofs.theories.Theory.add_cases.Goals.{In_ok-put_cases}
 
-is_theory : (c : Joined-branch-3) → theory_of c.deref_mut.result.now ≡ c.args.self.now
+is_theory : (c : In_ok-put_cases) → theory_of c.deref_mut.result.now ≡ c.args.self.now
 is_theory c = ap theory_of c.deref_mut.ensures.value ∙ c.self.view_is
 
-is_kept : (c : Joined-branch-3) → IsKept c.deref_mut.result.now
+is_kept : (c : In_ok-put_cases) → IsKept c.deref_mut.result.now
 is_kept c = subst IsKept (sym c.deref_mut.ensures.value) c.self.invariant
 
-is_new : (c : Joined-branch-3) → IsNewList (theory_of c.deref_mut.result.now) c.args.sort c.args.constants.items
-is_new c = new_list (theory_of c.deref_mut.result.now) c.args.sort c.args.constants.items (rw (← (is_theory c), c.as_slice-2.ensures.value) at (sym c.cases_fault.ensures ∙ c.in_default.is))
+is_new : (c : In_ok-put_cases) → IsNewList (theory_of c.deref_mut.result.now) c.args.sort c.args.constants.items
+is_new c = new_list (theory_of c.deref_mut.result.now) c.args.sort c.args.constants.items (rw (← (is_theory c), c.as_slice.ensures.value) at c.in_ok-number.ensures.number.0)
 
-grown : (c : Joined-branch-3) → map (λ e. case_list e.0 e.1.items) c.insert.new.self.entries ≡ (theory_of c.deref_mut.result.now).cases ++ case_list c.args.sort c.args.constants.items ∷ []
+grown : (c : In_ok-put_cases) → map (λ e. case_list e.0 e.1.items) c.put_cases.new.cases.entries ≡ (theory_of c.deref_mut.result.now).cases ++ case_list c.args.sort c.args.constants.items ∷ []
 grown c =
     let es = c.deref_mut.result.now.cases.entries in
-    ap (map (λ e. case_list e.0 e.1.items)) (c.in_ok-insert.ensures.entries ∙ insert_entry-last _ es c.args.sort c.args.constants (absent_entry (λ v. v.items) es c.args.sort (is_new c).no_cases))
+    ap (map (λ e. case_list e.0 e.1.items)) (c.in_ok-put_cases.ensures.put ∙ insert_entry-last _ es c.args.sort c.args.constants (absent_entry (λ v. v.items) es c.args.sort (is_new c).no_cases))
     ∙ map-push (λ e. case_list e.0 e.1.items) es (c.args.sort, c.args.constants)
 
 pub invariant_of-self-2 : goal.invariant_of-self-2

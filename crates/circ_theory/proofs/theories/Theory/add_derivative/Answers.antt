@@ -6,7 +6,7 @@ use Rattle.circ_theory.specs.WellFormed.{IsWellFormed}
 use Rattle.circ_theory.specs.Inside.{theory_of, IsObserver, IsKept}
 use Rattle.circ_theory.specs.Observing.{derivative_with, derivative_of}
 use Rattle.circ_theory.proofs.Lists.{map-push, all_push}
-use Rattle.circ_theory.proofs.Filling.{any_inserted}
+use Rattle.circ_pairs.proofs.Filling.{any_inserted}
 use Rattle.circ_theory.proofs.Observers.{new_derivative, derivative_grows, hidden_more}
 use Rattle.circ_theory.proofs.theories.Theory.add_derivative.Goals as goal
 
@@ -14,8 +14,8 @@ abbrev observed : Observer → Derivative
 observed o = derivative_with o.hole o.term
 
 -- the derivatives with one more
-grown : (old mid new : List Observer) (o : Observer) → mid ≡ old → new ≡ mid ++ o ∷ [] → map observed new ≡ map observed old ++ observed o ∷ []
-grown old mid new o kept put = ap (map observed) (put ∙ ap (λ os. os ++ o ∷ []) kept) ∙ map-push observed old o
+grown : (old new : List Observer) (o : Observer) → new ≡ old ++ o ∷ [] → map observed new ≡ map observed old ++ observed o ∷ []
+grown old new o put = ap (map observed) put ∙ map-push observed old o
 
 pub invariant_of-self-2 : goal.invariant_of-self-2
 invariant_of-self-2 c =
@@ -25,8 +25,8 @@ invariant_of-self-2 c =
     let th : Theory = theory_of p in
     let t = c.args.term in
     let o : Observer = record { term = t; hole = c.in_ok-hole.hole; sorts = c.in_ok-hole.sorts } in
-    let items = c.put_observer.ensures ∙ ap (λ os. os ++ o ∷ []) c.in_ok-note_hole.ensures.derivatives in
-    let more = grown p.derivatives.items c.note_hole.new.derivatives.items c.put_observer.new.derivatives.items o c.in_ok-note_hole.ensures.derivatives c.put_observer.ensures in
+    let items = c.in_ok-add_observer.ensures.put in
+    let more = grown p.derivatives.items c.add_observer.new.derivatives.items o items in
     let hole : observed o ≡ derivative_of t = ap (λ h. derivative_with h t) c.in_ok-hole.ensures.hole in
     let new = new_derivative th t (rw (← is_theory) at c.in_ok-hole.ensures.new) in
     let P : List Derivative → Type 0 = λ ds. IsWellFormed (record th { derivatives = ds }) in
@@ -36,8 +36,8 @@ invariant_of-self-2 c =
       entries = kept.entries;
       listed = kept.listed;
       observers = subst (AllByRecursion IsObserver) (sym items) (all_push IsObserver p.derivatives.items o kept.observers c.in_ok-hole.ensures.sorts);
-      hidden = λ s. hidden_more th p.hidden.keys c.note_hole.new.hidden.keys c.in_ok-hole.hole s (observed o) (kept.hidden s)
-          (ap (list_any (nat_eq s)) c.in_ok-note_hole.ensures.noted ∙ any_inserted p.hidden.keys c.in_ok-hole.hole s) refl
+      hidden = λ s. hidden_more th p.hidden.keys c.add_observer.new.hidden.keys c.in_ok-hole.hole s (observed o) (kept.hidden s)
+          (ap (list_any (nat_eq s)) c.in_ok-add_observer.ensures.noted ∙ any_inserted p.hidden.keys c.in_ok-hole.hole s) refl
           ∙ ap (list_any (λ d. s == d.hole)) (sym more);
       conditions = kept.conditions;
       by_word = kept.by_word;
@@ -50,6 +50,6 @@ returns-clause-added c =
     let is_theory : theory_of p ≡ c.args.self.now = ap theory_of c.deref_mut-parts.ensures.value ∙ c.self.view_is in
     let th : Theory = theory_of p in
     let o : Observer = record { term = c.args.term; hole = c.in_ok-hole.hole; sorts = c.in_ok-hole.sorts } in
-    let more = grown p.derivatives.items c.note_hole.new.derivatives.items c.put_observer.new.derivatives.items o c.in_ok-note_hole.ensures.derivatives c.put_observer.ensures in
+    let more = grown p.derivatives.items c.add_observer.new.derivatives.items o c.in_ok-add_observer.ensures.put in
     let hole : observed o ≡ derivative_of c.args.term = ap (λ h. derivative_with h c.args.term) c.in_ok-hole.ensures.hole in
     rw (← is_theory) (ap (λ ds. record th { derivatives = ds }) (more ∙ ap (λ d. th.derivatives ++ d ∷ []) hole))

@@ -1,10 +1,10 @@
 use Rattle.std.proofs.Common.{◌≡◌, ◌&&◌, ◌∷◌, [], ◌++◌, true, is_some, List, map, ap, sym, subst, ◌∙◌}
 use Rattle.std.specs.List.{AllByRecursion, list_any}
 use Rattle.circ_term.specs.Tree.{operator_number}
-use Rattle.circ_theory.specs.declared.parts.Equation.{Equation}
+use Rattle.circ_pairs.specs.declared.goals.Equation.{Equation}
 use Rattle.circ_theory.specs.Theory.{Theory}
 use Rattle.circ_theory.specs.WellFormed.{IsWellFormed}
-use Rattle.circ_theory.specs.Observing.{has_condition_of}
+use Rattle.circ_pairs.specs.Pair.{has_condition_of}
 use Rattle.circ_theory.specs.Inside.{theory_of, IsListed, IsKept}
 use Rattle.circ_theory.proofs.Lists.{map-push, all_push}
 use Rattle.circ_theory.proofs.Growing.{equation_grows}
@@ -21,8 +21,8 @@ invariant_of-self-2 c =
     let new : IsNewEquation th c.args.conds = new_equation th c.args.conds (rw (← is_theory) at c.in_ok-variables.ensures.new) in
     let shown = visible_conditions th c.args.conds (rw (← is_theory) at c.requires.conds_sorted) new.visible in
     let P : List Equation → Type 0 = λ es. IsWellFormed (record th { equations = es }) in
-    let items = c.in_ok-push.ensures.items in
-    let more : map (λ l. l.equation) c.push.new.self.items ≡ th.equations ++ e ∷ [] = ap (map (λ l. l.equation)) items ∙ map-push (λ l. l.equation) p.equations.items _ in
+    let items = c.in_ok-put_listed.ensures.put in
+    let more : map (λ l. l.equation) c.put_listed.new.equations.items ≡ th.equations ++ e ∷ [] = ap (map (λ l. l.equation)) items ∙ map-push (λ l. l.equation) p.equations.items _ in
     record {
       well_formed = subst P (sym more)
           (equation_grows th e kept.well_formed (record { sorted = rw (← is_theory) at c.requires.sorted; conds = shown }) c.requires.in_order new.few new.room);
@@ -35,8 +35,8 @@ invariant_of-self-2 c =
           }));
       observers = kept.observers;
       hidden = kept.hidden;
-      conditions = λ s h. conditions_more th.equations e p.condition_sorts.keys c.note_sorts.new.kept.keys s (kept.conditions s) (c.in_ok-note_sorts.ensures.more s)
-          (λ k. c.in_ok-note_sorts.ensures.noted s (rw (sym c.as_slice.ensures) at k)) (subst (λ es. list_any (λ d. has_condition_of s d.conds) es ≡ true) more h);
+      conditions = λ s h. conditions_more th.equations e p.condition_sorts.keys c.put_listed.new.kept.keys s (kept.conditions s) (c.in_ok-put_listed.ensures.more s)
+          (λ k. c.in_ok-put_listed.ensures.noted s k) (subst (λ es. list_any (λ d. has_condition_of s d.conds) es ≡ true) more h);
       by_word = kept.by_word;
       by_both = kept.by_both;
     }

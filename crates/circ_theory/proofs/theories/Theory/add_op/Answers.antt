@@ -1,4 +1,4 @@
-use Rattle.std.proofs.Common.{◌≡◌, ◌&&◌, List, ◌∷◌, ◌++◌, [], nat_eq, map, None, ap, sym, subst, ◌∙◌}
+use Rattle.std.proofs.Common.{◌≡◌, ◌&&◌, List, ◌∷◌, ◌++◌, [], nat_eq, map, None, refl, ap, sym, subst, ◌∙◌}
 use Rattle.std.specs.List.{AllByRecursion, position}
 use Rattle.std.specs.Option.{option_eq}
 use Rattle.std.specs.Cmp.Lexicographic.{pointwise}
@@ -22,10 +22,10 @@ abbrev declared : List (OpKey × OpDecl) → List Operator
 declared es = map (λ e. operator_of e.1) es
 
 -- a new operator's entry goes last
-grown : (old mid new : List (OpKey × OpDecl)) (k : OpKey) (d : OpDecl) → IsKeyOf k (operator_of d) → AllByRecursion IsEntry old
-    → position (is_same_operator (operator_of d)) (declared old) ≡ None → mid ≡ old → new ≡ insert_entry is_same_key mid k d → new ≡ old ++ (k, d) ∷ []
-grown old mid new k d key entries absent kept put =
-    put ∙ ap (λ es. insert_entry is_same_key es k d) kept ∙ entry_last is_same_key old k d (key_position k (operator_of d) old key entries ∙ absent)
+grown : (old new : List (OpKey × OpDecl)) (k : OpKey) (d : OpDecl) → IsKeyOf k (operator_of d) → AllByRecursion IsEntry old
+    → position (is_same_operator (operator_of d)) (declared old) ≡ None → new ≡ insert_entry is_same_key old k d → new ≡ old ++ (k, d) ∷ []
+grown old new k d key entries absent put =
+    put ∙ entry_last is_same_key old k d (key_position k (operator_of d) old key entries ∙ absent)
 
 pub invariant_of-self-2 : goal.invariant_of-self-2
 invariant_of-self-2 c =
@@ -37,7 +37,7 @@ invariant_of-self-2 c =
     let d = c.args.decl in
     let key = c.in_ok-key.ensures.key in
     let new : IsNew th (operator_of d) = new_operator th (operator_of d) key.is_form (rw (← is_theory) at c.in_ok-key.ensures.new) in
-    let more = grown p.ops.entries c.note_op.new.ops.entries c.put_op.new.ops.entries k d key kept.entries new.number c.in_ok-note_op.ensures.ops c.put_op.ensures in
+    let more = grown p.ops.entries c.add_entry.new.ops.entries k d key kept.entries new.number c.in_ok-add_entry.ensures.put in
     let ops = ap declared more ∙ map-push (λ e. operator_of e.1) p.ops.entries (k, d) in
     let number = rw (← is_theory) at c.op_count-number.ensures.count in
     let P : List Operator → Type 0 = λ os. IsWellFormed (record th { signature = record th.signature { ops = os } }) in
@@ -48,12 +48,11 @@ invariant_of-self-2 c =
       observers = kept.observers;
       hidden = kept.hidden;
       conditions = kept.conditions;
-      by_word = λ w. c.in_ok-note_op.ensures.noted.words w
-          ∙ word_more th.signature (operator_of d) w c.first_word-word.result.now _ c.op_count-number.result c.first_word-word.ensures (kept.by_word w) number
+      by_word = λ w. c.in_ok-add_entry.ensures.noted.words w
+          ∙ word_more th.signature (operator_of d) w _ _ c.op_count-number.result refl (kept.by_word w) number
           ∙ ap (places_from (λ o. pointwise nat_eq w (first_word o.form)) 0) (sym ops);
-      by_both = λ w s. c.in_ok-note_op.ensures.noted.both w s
-          ∙ both_more th.signature (operator_of d) w c.first_word-word.result.now _ s c.first_sort-sort.result c.op_count-number.result c.first_word-word.ensures
-          (rw c.as_slice.ensures.value at c.first_sort-sort.ensures) (kept.by_both w s) number
+      by_both = λ w s. c.in_ok-add_entry.ensures.noted.both w s
+          ∙ both_more th.signature (operator_of d) w _ _ s _ c.op_count-number.result refl refl (kept.by_both w s) number
           ∙ ap (places_from (λ o. pointwise nat_eq w (first_word o.form) && option_eq nat_eq s (first_sort o)) 0) (sym ops);
     }
 
@@ -67,5 +66,5 @@ returns-clause-added c =
     let d = c.args.decl in
     let key = c.in_ok-key.ensures.key in
     let new : IsNew th (operator_of d) = new_operator th (operator_of d) key.is_form (rw (← is_theory) at c.in_ok-key.ensures.new) in
-    let more = grown p.ops.entries c.note_op.new.ops.entries c.put_op.new.ops.entries k d key kept.entries new.number c.in_ok-note_op.ensures.ops c.put_op.ensures in
+    let more = grown p.ops.entries c.add_entry.new.ops.entries k d key kept.entries new.number c.in_ok-add_entry.ensures.put in
     rw (← is_theory) (ap (λ os. record th { signature = record th.signature { ops = os } }) (ap declared more ∙ map-push (λ e. operator_of e.1) p.ops.entries (k, d)))

@@ -4,22 +4,22 @@ use Rattle.circ_theory.specs.Theory.{Theory}
 use Rattle.circ_theory.specs.WellFormed.{IsWellFormed}
 use Rattle.circ_theory.specs.Adding.{sort_number}
 use Rattle.circ_theory.specs.Inside.{theory_of, IsKept}
-use Rattle.circ_theory.proofs.Lists.{name_last}
+
 use Rattle.circ_theory.proofs.Growing.{sort_grows}
 use Rattle.circ_theory.proofs.Faults.{room_left}
 use Rattle.circ_theory.proofs.theories.Theory.add_sort.Goals as goal
-use Rattle.circ_theory.proofs.theories.Theory.add_sort.Goals.{In_ok-insert}
+use Rattle.circ_theory.proofs.theories.Theory.add_sort.Goals.{In_ok-put_name}
 
-is_theory : (c : In_ok-insert) → theory_of c.deref_mut.result.now ≡ c.args.self.now
+is_theory : (c : In_ok-put_name) → theory_of c.deref_mut.result.now ≡ c.args.self.now
 is_theory c = ap theory_of c.deref_mut.ensures.value ∙ c.self.view_is
 
-is_kept : (c : In_ok-insert) → IsKept c.deref_mut.result.now
+is_kept : (c : In_ok-put_name) → IsKept c.deref_mut.result.now
 is_kept c = subst IsKept (sym c.deref_mut.ensures.value) c.self.invariant
 
-grown : (c : In_ok-insert) → map (λ k. k.items) c.insert.new.self.keys ≡ (theory_of c.deref_mut.result.now).signature.sorts ++ c.args.name.now ∷ []
-grown c =
-    let none : sort_number (theory_of c.deref_mut.result.now).signature c.args.name.now ≡ None = rw (← (is_theory c)) at (sym c.sort_named.ensures ∙ c.in_default.is) in
-    ap (map (λ k. k.items)) c.in_ok-insert.ensures.keys ∙ name_last (λ k. k.items) c.deref_mut.result.now.sorts.keys c.in_ok-copy.copy c.args.name.now c.in_ok-copy.ensures.items none
+pub put_name-requires : goal.put_name-requires
+put_name-requires c =
+    let is : theory_of c.deref_mut.result.now ≡ c.args.self.now = ap theory_of c.deref_mut.ensures.value ∙ c.self.view_is in
+    rw (← is) at (sym c.sort_named.ensures ∙ c.in_default.is)
 
 pub invariant_of-self-2 : goal.invariant_of-self-2
 invariant_of-self-2 c =
@@ -28,7 +28,7 @@ invariant_of-self-2 c =
     rw (← (is_theory c)) at (rw c.sort_count-number.ensures.count at (room_left sort_limit c.sort_count-number.result (sym c.count_fault.ensures ∙ c.in_default-count_fault.is))) in
     let P : List (List ℕ) → Type 0 = λ ss. IsWellFormed (record th { signature = record th.signature { sorts = ss } }) in
     record {
-      well_formed = subst P (sym (grown c)) (sort_grows th c.args.name.now (is_kept c).well_formed room);
+      well_formed = subst P (sym c.in_ok-put_name.ensures.put) (sort_grows th c.args.name.now (is_kept c).well_formed room);
       entries = (is_kept c).entries;
       listed = (is_kept c).listed;
       observers = (is_kept c).observers;
@@ -41,4 +41,4 @@ invariant_of-self-2 c =
 pub returns-clause-added : goal.returns-clause-added
 returns-clause-added c =
     let th : Theory = theory_of c.deref_mut.result.now in
-    rw (← (is_theory c)) (ap (λ ss. record th { signature = record th.signature { sorts = ss } }) (grown c))
+    rw (← (is_theory c)) (ap (λ ss. record th { signature = record th.signature { sorts = ss } }) c.in_ok-put_name.ensures.put)

@@ -1,8 +1,8 @@
 use Rattle.std.proofs.Common.{◌≡◌, ap, sym, ◌∙◌}
 use Rattle.std.specs.List.{list_any}
 use Rattle.circ_theory.specs.Inside.{theory_of}
-use Rattle.circ_theory.specs.Rule.{is_conditional}
-use Rattle.circ_theory.proofs.Lists.{list_any-map}
+use Rattle.circ_pairs.specs.Rule.{is_conditional}
+use Rattle.circ_pairs.proofs.Lists.{list_any-map}
 use Rattle.circ_theory.proofs.Conditions.{without_conditions}
 use Rattle.circ_theory.proofs.theories.Theory.has_conditions.Goals as goal
 

@@ -1,6 +1,6 @@
 use Rattle.std.proofs.Common.{◌+◌, drop, map, sym, ◌∙◌}
 use Rattle.circ_term.proofs.Within.{drop_read}
-use Rattle.circ_theory.specs.Pairs.{plain_pair}
+use Rattle.circ_pairs.specs.Pairs.{plain_pair}
 use Rattle.circ_theory.proofs.Conditions.{first_hidden}
 use Rattle.circ_theory.proofs.theories.Theory.hidden_condition.Goals as goal
 

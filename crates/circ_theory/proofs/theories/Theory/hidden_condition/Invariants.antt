@@ -1,5 +1,5 @@
 use Rattle.std.proofs.Common.{◌≡◌, map, drop}
-use Rattle.circ_theory.specs.Pairs.{plain_pair}
+use Rattle.circ_pairs.specs.Pairs.{plain_pair}
 use Rattle.circ_theory.specs.Adding.{hidden_condition}
 use Rattle.circ_theory.proofs.theories.Theory.hidden_condition.Given as goal
 

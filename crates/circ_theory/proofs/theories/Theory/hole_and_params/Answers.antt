@@ -3,5 +3,5 @@ use Rattle.circ_term.proofs.Limits.{within_limits}
 use Rattle.circ_theory.proofs.Linear.{few_holes}
 use Rattle.circ_theory.proofs.theories.Theory.hole_and_params.Goals as goal
 
-pub derivative_fault-requires : goal.derivative_fault-requires
-derivative_fault-requires c = omega (arith, ap length c.in_ok-slots.ensures.holes, few_holes c.args.term.now, (within_limits c.args.term.now c.known.ensures).0)
+pub new_slots-requires : goal.new_slots-requires
+new_slots-requires c = omega (arith, ap length c.in_ok-slots.ensures.holes, few_holes c.args.term.now, (within_limits c.args.term.now c.known.ensures).0)

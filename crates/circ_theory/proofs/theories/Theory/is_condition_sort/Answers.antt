@@ -1,8 +1,9 @@
 use Rattle.std.proofs.Common.{◌≡◌, nat_eq, ap, sym, ◌∙◌}
 use Rattle.std.specs.List.{list_any}
-use Rattle.circ_theory.specs.Observing.{has_condition_of, is_condition_sort}
+use Rattle.circ_pairs.specs.Pair.{has_condition_of}
+use Rattle.circ_theory.specs.Observing.{is_condition_sort}
 use Rattle.circ_theory.specs.Inside.{theory_of}
-use Rattle.circ_theory.proofs.Lists.{list_any-map}
+use Rattle.circ_pairs.proofs.Lists.{list_any-map}
 use Rattle.circ_theory.proofs.Conditions.{not_kept}
 use Rattle.circ_theory.proofs.theories.Theory.is_condition_sort.Goals as goal
 

@@ -1,6 +1,6 @@
 use Rattle.std.proofs.Common.{false, ap, ◌∙◌}
 use Rattle.std.specs.Option.{option_map_or}
-use Rattle.circ_theory.specs.Rule.{is_rule}
+use Rattle.circ_pairs.specs.Rule.{is_rule}
 use Rattle.circ_theory.proofs.theories.Theory.is_rule.Goals as goal
 
 pub returns-in-Some : goal.returns-in-Some

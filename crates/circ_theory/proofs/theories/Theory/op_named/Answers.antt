@@ -17,8 +17,8 @@ returns-in-Some c =
     ∙ key_position k (asked c.args.form.now c.args.args.now) c.self.inside.parts.value.ops.entries
     (record { form = c.in_ok-spell.ensures; is_form = c.known.ensures; args = c.in_ok-from_slice.ensures.items }) c.self.invariant.entries)
 
-pub returns : goal.returns
-returns c =
+pub returns-in-None : goal.returns-in-None
+returns-in-None c =
     let k : OpKey = record { form = c.in_ok-spell.field-0; args = c.in_ok-from_slice.field-0 } in
     rw (← c.self.view_is)
     ((rw c.deref.ensures at c.in-None.ensures.index)

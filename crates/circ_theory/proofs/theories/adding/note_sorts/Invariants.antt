@@ -1,7 +1,7 @@
 use Rattle.std.proofs.Common.{◌≡◌, ◌||◌, ℕ, true, nat_eq, map, drop}
 use Rattle.std.specs.List.{list_any}
-use Rattle.circ_theory.specs.Pairs.{plain_pair}
-use Rattle.circ_theory.specs.Observing.{has_condition_of}
+use Rattle.circ_pairs.specs.Pairs.{plain_pair}
+use Rattle.circ_pairs.specs.Pair.{has_condition_of}
 use Rattle.circ_theory.proofs.theories.adding.note_sorts.Given as goal
 
 abbrev pub invariant-loop-pair : goal.invariant-loop-pair

@@ -1,7 +1,7 @@
 use Rattle.std.proofs.Common.{◌≡◌, ◌≤◌, ◌+◌, ℕ, None, unwrap_or, drop, map}
 use Rattle.circ_term.specs.Tree.{sort_of}
 use Rattle.circ_term.specs.Subst.{found}
-use Rattle.circ_theory.specs.Variables.{given, numbered}
+use Rattle.circ_pairs.specs.Variables.{given, numbered}
 use Rattle.circ_theory.specs.Experiment.{plug}
 use Rattle.circ_theory.specs.Fresh.{given_parameters}
 use Rattle.circ_theory.proofs.theories.terms.plugged.Given as goal

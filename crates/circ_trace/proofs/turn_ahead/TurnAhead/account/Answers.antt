@@ -1,7 +1,7 @@
 use Rattle.std.proofs.Common.{◌≡◌, ◌∷◌, [], List, drop, ap, sym, subst}
 use Rattle.std.specs.Prelude.{IfOk}
 use Rattle.circ_term.proofs.Within.{drop_read}
-use Rattle.circ_theory.specs.declared.parts.Goal.{Goal}
+use Rattle.circ_theory.specs.Goal.{Goal}
 use Rattle.circ_attempt.specs.Search.{going}
 use Rattle.circ_turn.specs.Standing.{standing, conduct_with}
 use Rattle.circ_turn.proofs.Earlier.{none_there}

@@ -1,7 +1,7 @@
 use Rattle.std.proofs.Common.{◌≡◌, ◌∷◌, List, drop, sym, subst, refl}
 use Rattle.circ_term.proofs.Within.{drop_read}
 use Rattle.circ_theory.specs.Theory.{Pair, goal as goal_with}
-use Rattle.circ_theory.specs.declared.parts.Goal.{Goal}
+use Rattle.circ_theory.specs.Goal.{Goal}
 use Rattle.circ_plain_search.specs.Search.{sides_with, Sides}
 use Rattle.circ_conditional_search.specs.Coming.{IsReadyTrying}
 use Rattle.circ_conditional_search.specs.Search.{goal_turn_trying}

@@ -3,7 +3,7 @@ use Rattle.circ_plain_search.specs.Joining.{use_link}
 use Rattle.circ_join.specs.Uses.{plain_uses}
 use Rattle.circ_term.specs.Tree.{Tree}
 use Rattle.circ_proof.specs.Plain.{WhyOf, Same_why, plain_link, plain_links}
-use Rattle.circ_theory.specs.declared.parts.Goal.{Goal}
+use Rattle.circ_theory.specs.Goal.{Goal}
 use Rattle.circ_plain_search.specs.Search.{chain_with}
 use Rattle.circ_conditional_search.specs.Search.{goal_reduced}
 use Rattle.circ_turn.specs.Ending.{GoesTo}

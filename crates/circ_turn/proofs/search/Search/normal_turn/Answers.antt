@@ -1,5 +1,5 @@
 use Rattle.std.proofs.Common.{List, drop, ap, subst, refl}
-use Rattle.circ_theory.specs.declared.parts.Goal.{Goal}
+use Rattle.circ_theory.specs.Goal.{Goal}
 use Rattle.circ_plain_search.specs.Search.{Sides, sides_with}
 use Rattle.circ_conditional_search.specs.Search.{with_sides_of}
 use Rattle.circ_block.specs.Rules.{IsRulesOf}

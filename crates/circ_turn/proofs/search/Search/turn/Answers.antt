@@ -1,7 +1,7 @@
 use Rattle.std.proofs.Common.{◌≡◌, ◌∷◌, [], List, Ok, length, take, drop, sym, ap, subst, ◌∙◌, arith}
 use Rattle.std.proofs.lemmas.List.{take_at}
 use Rattle.circ_term.proofs.Within.{drop_read}
-use Rattle.circ_theory.specs.declared.parts.Goal.{Goal}
+use Rattle.circ_theory.specs.Goal.{Goal}
 use Rattle.circ_block.specs.Rules.{IsRulesOf}
 use Rattle.circ_conditional_search.specs.Search.{turn_trying, turn_trying_at}
 use Rattle.circ_turn.specs.Standing.{standing, plain_limits, manner_of}

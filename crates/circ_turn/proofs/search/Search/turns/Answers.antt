@@ -1,5 +1,5 @@
 use Rattle.std.proofs.Common.{◌≡◌, List, [], ap, sym, ◌∙◌, subst}
-use Rattle.circ_theory.specs.declared.parts.Goal.{Goal}
+use Rattle.circ_theory.specs.Goal.{Goal}
 use Rattle.circ_conditional_search.specs.Coming.{ComesTrying, here, further}
 use Rattle.circ_plain_search.specs.Search.{Standing, Ending, All_done}
 use Rattle.circ_conditional_search.specs.Search.{Finishes, stops, turn_trying}

@@ -8,7 +8,7 @@ use Rattle.circ_term.specs.Tree.{Tree}
 use Rattle.circ_proof.specs.Plain.{plain_why, plain_whys}
 use Rattle.circ_proof.specs.declared.links.Why.{Why, Split}
 use Rattle.circ_proof.proofs.Rows.{split_plain}
-use Rattle.circ_theory.specs.declared.parts.Goal.{Goal}
+use Rattle.circ_theory.specs.Goal.{Goal}
 use Rattle.circ_turn.specs.Ending.{GoesTo}
 use Rattle.circ_turn.specs.Standing.{standing, plain_limits}
 use Rattle.circ_turn.proofs.Turning.{visible_goes, goes_same, part_ends, cases_here}

@@ -1,0 +1,9 @@
+pub mod Pair
+pub mod Pairs
+pub mod Goal
+pub mod Variables
+pub mod Rule
+pub mod Slots
+pub mod Fresh
+pub mod Renumbering
+pub mod Occurring
