@@ -17,15 +17,12 @@ ghost use Rattle.circ_nodes.specs.Rows.{plain_root};
 use crate::Numbers;
 use crate::rows::{Rows, Weight};
 use circ_hash_chains::HashChains;
-use circ_term::{Kind, MOST_ARGS, MOST_DEPTH, MOST_NODES, Term, TermFault, mixed};
+use circ_term::{Kind, MOST_ARGS, MOST_DEPTH, MOST_NODES, Term, TermFault, head_fingerprint, mixed};
 use std::alloc::{AllocError, Global};
 use std::marker::Model;
 
 // The most terms, so that each has a number that is a `u32`.
 const MOST_TERMS: usize = 4_294_967_295;
-
-// What the fingerprint of an application begins with.
-const APPLICATION: u32 = 2;
 
 // The sizes of some terms together, the depth of the deepest, and whether none has a variable.
 #[derive(Clone, Copy)]
@@ -480,7 +477,7 @@ impl Nodes {
         ensures { (ts : Trees) → AreNamed self.now numbers.now ts
             → result ≡ fingerprint_of (App op sort ts) }
     {
-        let mut all = first_mixed(op, sort);
+        let mut all = head_fingerprint(op, sort);
         for number in numbers {
             all = mixed(all, self.key(*number));
         }
@@ -589,13 +586,6 @@ impl Nodes {
         }
         Ok(number as u32)
     }
-}
-
-// The fingerprint of an application before its arguments.
-fn first_mixed(op: u32, sort: u32) -> u32
-    ensures { result ≡ mixed (mixed 2 op) sort }
-{
-    mixed(mixed(APPLICATION, op), sort)
 }
 
 // What is kept of a variable.

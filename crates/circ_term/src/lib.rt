@@ -13,7 +13,7 @@ mod node;
 
 pub use bindings::Subst;
 pub use fault::TermFault;
-pub use node::{Kind, Term, cmp_all, mixed, share_all};
+pub use node::{Kind, Term, cmp_all, head_fingerprint, mixed, share_all};
 
 /// The most nodes of a term, counted as a tree.
 pub const MOST_NODES: u64 = 1_000_000;

@@ -107,7 +107,7 @@ impl Term {
         let mut size: u64 = 1;
         let mut depth: u64 = 0;
         let mut is_ground = true;
-        let mut fingerprint = first_mixed(APPLICATION, op, sort);
+        let mut fingerprint = head_fingerprint(op, sort);
         for arg in &args {
             size += arg.size();
             depth = depth.max(arg.depth());
@@ -399,6 +399,14 @@ fn spread(number: u32) -> u32
 {
     let number = number as u64;
     ((number + number / 32_768) * 2_246_822_519 % 4_294_967_296) as u32
+}
+
+/// The fingerprint of an application before those of its arguments, which are [`mixed`] into it in
+/// their order.
+pub fn head_fingerprint(op: u32, sort: u32) -> u32
+    ensures { result ≡ mixed (mixed 2 op) sort }
+{
+    first_mixed(APPLICATION, op, sort)
 }
 
 // The fingerprint of a variable, and of an application before its arguments.
