@@ -18,7 +18,7 @@ use circ_rewrite::RewriteFault;
 
 // What is to be kept of a term, by replacements that make no term past the bounds. A term that comes
 // again would come again until the budget is used up: that is seen by Brent's method, which compares
-// each new term with one that came before, of late the last whose count was a power of two.
+// each new term with one that came before, the latest whose count was a power of two.
 #[cycle(settle)]
 pub(crate) fn settle(
     means: &Means<'_>,

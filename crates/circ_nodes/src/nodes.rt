@@ -17,7 +17,9 @@ ghost use Rattle.circ_nodes.specs.Rows.{plain_root};
 use crate::Numbers;
 use crate::rows::{Rows, Weight};
 use circ_hash_chains::HashChains;
-use circ_term::{Kind, MOST_ARGS, MOST_DEPTH, MOST_NODES, Term, TermFault, head_fingerprint, mixed};
+use circ_term::{
+    Kind, MOST_ARGS, MOST_DEPTH, MOST_NODES, Term, TermFault, head_fingerprint, mixed,
+};
 use std::alloc::{AllocError, Global};
 use std::marker::Model;
 
@@ -221,7 +223,11 @@ impl Nodes {
         ensures enters { OnOk result (Enters self.old self.new (Var number sort)) }
         ensures err { OnErr result (self.new ≡ self.old) }
     {
-        self.enter(Shape::Variable { number, sort }, &Term::var(number, sort))
+        self.enter(
+            false,
+            Shape::Variable { number, sort },
+            &Term::var(number, sort),
+        )
     }
 
     /// The number of an operator on the terms of these numbers. Costs as much as there are
@@ -273,72 +279,57 @@ impl Nodes {
     {
         match self.look_up(term) {
             Lookup::There(number) => Ok(number),
-            Lookup::Absent => self.add(term),
-            Lookup::Unclear => self.intern_nodes(term),
+            Lookup::Absent => self.add(true, term),
+            Lookup::Unclear => self.add(false, term),
         }
     }
 
-    // The new term goes last, behind its arguments.
+    // The number of a term. A new one goes last, behind its arguments. Where it may be there, each
+    // of its nodes is looked up.
     #[cycle(intern)]
-    fn add(&mut self, term: &Term) -> Result<u32, AllocError>
-        requires { Finds self.old term.now None }
+    fn add(&mut self, is_new: bool, term: &Term) -> Result<u32, AllocError>
+        requires { IsTrue is_new → Finds self.old term.now None }
         ensures grows { Grows self.old self.new }
         ensures parts { AddsOnly (IsPart term.now) self.old self.new }
         ensures named { IfOk result (λ n. IsNamed self.new n term.now) }
     {
         match term.kind() {
             Kind::Variable { number, sort } => {
-                self.put_term(Shape::Variable { number, sort }, term)
+                self.enter(is_new, Shape::Variable { number, sort }, term)
             }
             Kind::Application { op, sort, args } => {
-                let args = self.intern_all(args)?;
+                let args = self.intern_all(is_new, args)?;
                 let args = args.as_slice();
-                self.put_term(Shape::Application { op, sort, args }, term)
+                self.enter(is_new, Shape::Application { op, sort, args }, term)
             }
         }
     }
 
+    // The numbers of the arguments of a term that is new, or may be there.
     #[cycle(intern)]
-    fn intern_all(&mut self, terms: &[Term]) -> Result<Numbers, AllocError>
+    fn intern_all(&mut self, is_new: bool, terms: &[Term]) -> Result<Numbers, AllocError>
         ensures grows { Grows self.old self.new }
         ensures parts { AddsOnly (IsPartOfSome terms.now) self.old self.new }
         ensures named { IfOk result (λ ns. AreNamed self.new ns.items (trees_of terms.now)) }
     {
         let mut numbers = Numbers::with_capacity(self.alloc, terms.len())?;
         for term in terms {
-            numbers.push(self.intern(term)?)?;
+            numbers.push(self.intern_part(is_new, term)?)?;
         }
         Ok(numbers)
     }
 
-    // The number of a term, each node of which is looked up.
-    #[cycle(intern_nodes)]
-    fn intern_nodes(&mut self, term: &Term) -> Result<u32, AllocError>
+    // The number of an argument: it is looked for whole where the term above it is new.
+    #[cycle(intern)]
+    fn intern_part(&mut self, is_new: bool, term: &Term) -> Result<u32, AllocError>
         ensures grows { Grows self.old self.new }
         ensures parts { AddsOnly (IsPart term.now) self.old self.new }
         ensures named { IfOk result (λ n. IsNamed self.new n term.now) }
     {
-        match term.kind() {
-            Kind::Variable { number, sort } => self.enter(Shape::Variable { number, sort }, term),
-            Kind::Application { op, sort, args } => {
-                let args = self.intern_all_nodes(args)?;
-                let args = args.as_slice();
-                self.enter(Shape::Application { op, sort, args }, term)
-            }
+        if is_new {
+            return self.intern(term);
         }
-    }
-
-    #[cycle(intern_nodes)]
-    fn intern_all_nodes(&mut self, terms: &[Term]) -> Result<Numbers, AllocError>
-        ensures grows { Grows self.old self.new }
-        ensures parts { AddsOnly (IsPartOfSome terms.now) self.old self.new }
-        ensures named { IfOk result (λ ns. AreNamed self.new ns.items (trees_of terms.now)) }
-    {
-        let mut numbers = Numbers::with_capacity(self.alloc, terms.len())?;
-        for term in terms {
-            numbers.push(self.intern_nodes(term)?)?;
-        }
-        Ok(numbers)
+        self.add(false, term)
     }
 
     // Looks for a whole term among those with its fingerprint. It is compared with one at most: the
@@ -484,14 +475,18 @@ impl Nodes {
         all
     }
 
-    // The number of the term with this root. The term goes last where it is new.
-    fn enter(&mut self, root: Shape<'_>, term: &Term) -> Result<u32, AllocError>
-        requires { HasRoot self.old (plain_root root) term.now }
+    // The number of the term with this root. It goes last where it is new, which may be known.
+    fn enter(&mut self, is_new: bool, root: Shape<'_>, term: &Term) -> Result<u32, AllocError>
+        requires root { HasRoot self.old (plain_root root) term.now }
+        requires fresh { IsTrue is_new → Finds self.old term.now None }
         ensures grows { Grows self.old self.new }
         ensures named { IfOk result (λ n. IsNamed self.new n term.now) }
         ensures enters { OnOk result (Enters self.old self.new term.now) }
         ensures err { OnErr result (self.new ≡ self.old) }
     {
+        if is_new {
+            return self.put_term(root, term);
+        }
         match self.find(root, term.fingerprint()) {
             Some(number) => Ok(number),
             None => self.put_term(root, term),
