@@ -14,9 +14,10 @@ mod renumber;
 mod theories;
 mod way;
 
-pub use circ_pairs::{Equation, Goal, Occurring, Pair, Pairs};
-pub use circ_pairs::{above, above_pairs, constant_of, fresh_after, fresh_in, gather, in_order};
-pub use circ_pairs::{parameters_in_order, share_pairs, variables_from};
+pub use circ_pairs::{
+    Equation, Goal, Occurring, Pair, Pairs, above, above_pairs, constant_of, fresh_after, fresh_in,
+    gather, in_order, parameters_in_order, share_pairs, variables_from,
+};
 pub use fault::TheoryFault;
 pub use parts::{OpDecl, Side};
 pub use renumber::renumbered;

@@ -90,7 +90,14 @@ impl Theory {
         let number = self.op_count();
         let key = self.new_key(&decl)?;
         let parts = &mut *self.parts;
-        add_entry(self.alloc, &mut parts.ops, &mut parts.by_word, key, decl, number)?;
+        add_entry(
+            self.alloc,
+            &mut parts.ops,
+            &mut parts.by_word,
+            key,
+            decl,
+            number,
+        )?;
         Ok(number)
     }
 

@@ -4,7 +4,6 @@ use Rattle.circ_theory.specs.Theory.{Theory}
 use Rattle.circ_theory.specs.WellFormed.{IsWellFormed}
 use Rattle.circ_theory.specs.Adding.{sort_number}
 use Rattle.circ_theory.specs.Inside.{theory_of, IsKept}
-
 use Rattle.circ_theory.proofs.Growing.{sort_grows}
 use Rattle.circ_theory.proofs.Faults.{room_left}
 use Rattle.circ_theory.proofs.theories.Theory.add_sort.Goals as goal
