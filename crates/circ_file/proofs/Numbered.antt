@@ -5,18 +5,18 @@ use Rattle.std.proofs.Common.{ap, sym, subst, ◌∙◌, arith, length-append, a
 use Rattle.std.proofs.lemmas.List.{take_more}
 use Rattle.std.proofs.lemmas.Option.{slice_get_within, slice_get_read}
 use Rattle.std.proofs.Math.Seq.{get_or-append_seam}
-use Rattle.circ_term.specs.Tree.{Tree, Trees, Var, App, none, more, list_of, trees_of, args_of}
+use Rattle.circ_term.specs.Tree.{Tree, Var, App, list_of, trees_of, args_of}
 use Rattle.circ_term.proofs.Trees.{list_of-trees_of}
 use Rattle.circ_term.specs.Order.{is_same}
 use Rattle.circ_term.proofs.Order.{same_here}
 use Rattle.circ_term.proofs.Within.{drop_read}
 use Rattle.circ_theory.proofs.Lists.{all_by, slice_get-front}
-use Rattle.circ_proof.specs.Table.{has, number_in, entered, added, all_added}
+use Rattle.circ_proof.specs.Table.{has, number_in, entered}
 use Rattle.circ_proof.proofs.Tables.{number_stays, number_last}
 use Rattle.circ_proof.specs.Proof.{IsEntry}
 use Rattle.circ_line.specs.Line.{Application_line}
 use Rattle.circ_proof_text.specs.TableText.{entry_of}
-use Rattle.circ_file.specs.Numbering.{IsClosed, AreNumbered}
+use Rattle.circ_file.specs.Numbering.{AreNumbered}
 
 -- which terms there are with one more
 
@@ -43,53 +43,27 @@ or_last {P = P} table t u h old new = go (has table u) refl (sym (has_more table
     go true e s = old e
     go false e s = new e (same_here u t s)
 
--- a term whose arguments are all there adds itself alone
-
-mutual
-  added_same : (terms : List Tree) → IsClosed terms → (t : Tree) → has terms t ≡ true → added terms t ≡ terms
-  added_same terms closed (Var n s) h = ap (λ b. if b then terms else terms ++ Var n s ∷ []) h
-  added_same terms closed (App f s ts) h =
-      ap (λ x. entered x (App f s ts)) (all_same terms closed ts (closed (App f s ts) h)) ∙ ap (λ b. if b then terms else terms ++ App f s ts ∷ []) h
-
-  all_same : (terms : List Tree) → IsClosed terms → (ts : Trees) → AllByRecursion (λ a. has terms a ≡ true) (list_of ts) → all_added terms ts ≡ terms
-  all_same terms closed none h = refl
-  all_same terms closed (more t ts) h = ap (λ x. all_added x ts) (added_same terms closed t h.0) ∙ all_same terms closed ts h.1
-
 module _ {table terms : List Tree} {firsts : List ℕ} (is : AreNumbered table terms firsts) where
-  -- a term that has a line
-  pub found_number : (t : Tree) → has table t ≡ true → (new : List Tree) (n : ℕ) → new ≡ added terms t → n ≡ number_in new t
-      → (new ≡ terms) × (slice_get firsts n ≡ Some (number_in table t))
-  found_number t h new n e m =
-      let same = e ∙ added_same terms is.closed t (is.same t ∙ h) in
-      (same, ap (slice_get firsts) (m ∙ ap (λ x. number_in x t) same) ∙ is.firsts_are t h)
-
-  pub found_grown : (t : Tree) → has table t ≡ true → length (added terms t) ≤ length table
-  found_grown t h = let e = ap length (added_same terms is.closed t (is.same t ∙ h)) in omega (arith, e, is.few)
-
-  -- a term that gets a line
-
-  entry_args : (t : Tree) → IsEntry table t → AllByRecursion (λ a. has terms a ≡ true) (args_of t)
+  pub entry_args : (t : Tree) → IsEntry table t → AllByRecursion (λ a. has terms a ≡ true) (args_of t)
   entry_args (Var n s) e = tt
   entry_args (App f s ts) e = all_by (λ a. has table a ≡ true) (λ a. has terms a ≡ true) (list_of ts) (λ a h. is.same a ∙ h) e
 
-  pub entry_added : (t : Tree) → IsEntry table t → added terms t ≡ entered terms t
-  entry_added (Var n s) e = refl
-  entry_added (App f s ts) e = ap (λ x. entered x (App f s ts)) (all_same terms is.closed ts (entry_args (App f s ts) e))
+  -- a term gets a line
 
-  pub entry_grown : (t : Tree) → IsEntry table t → length (added terms t) ≤ length table + 1
-  entry_grown t e = go (has terms t) refl
+  entered_by : (t : Tree) (b : Bool) → has terms t ≡ b → entered terms t ≡ (if b then terms else terms ++ t ∷ [])
+  entered_by t b h = ap (λ c. if c then terms else terms ++ t ∷ []) h
+
+  pub entry_grown : (t : Tree) → length (entered terms t) ≤ length table + 1
+  entry_grown t = go (has terms t) refl
     where
-      go : (b : Bool) → has terms t ≡ b → length (added terms t) ≤ length table + 1
-      go true h = let a = ap length (entry_added t e ∙ ap (λ b. if b then terms else terms ++ t ∷ []) h) in omega (arith, a, is.few)
-      go false h =
-          let a = ap length (entry_added t e ∙ ap (λ b. if b then terms else terms ++ t ∷ []) h) in
-          omega (arith, a, length-append terms (t ∷ []), is.few)
+      go : (b : Bool) → has terms t ≡ b → length (entered terms t) ≤ length table + 1
+      go true h = let a = ap length (entered_by t true h) in omega (arith, a, is.few)
+      go false h = let a = ap length (entered_by t false h) in omega (arith, a, length-append terms (t ∷ []), is.few)
 
   -- it is among the terms
   pub old_entry : (t : Tree) → has table t ≡ true → AreNumbered (table ++ t ∷ []) terms firsts
   old_entry t h = record {
     same = λ u. is.same u ∙ same_as u;
-    closed = is.closed;
     few = omega (arith, length-append table (t ∷ []), is.few);
     count = is.count;
     firsts_are = λ u g. let there = sym (same_as u) in is.firsts_are u (same_as u ∙ g) ∙ ap Some (sym (number_stays table (t ∷ []) u (same_as u ∙ g)));
@@ -106,23 +80,14 @@ module _ {table terms : List Tree} {firsts : List ℕ} (is : AreNumbered table t
           go false e false d = d ∙ sym (has_more table t u ∙ ap (λ x. x || is_same u t) d ∙ e)
 
   -- it is a new one
-  pub new_entry : (t : Tree) → IsEntry table t → has table t ≡ false → AreNumbered (table ++ t ∷ []) (terms ++ t ∷ []) (firsts ++ length table ∷ [])
-  new_entry t e h = record {
+  pub new_entry : (t : Tree) → has table t ≡ false → AreNumbered (table ++ t ∷ []) (terms ++ t ∷ []) (firsts ++ length table ∷ [])
+  new_entry t h = record {
     same = λ u. has_more terms t u ∙ ap (λ b. b || is_same u t) (is.same u) ∙ sym (has_more table t u);
-    closed = closed;
     few = omega (arith, length-append table (t ∷ []), length-append terms (t ∷ []), is.few);
     count = omega (arith, length-append firsts (length table ∷ []), length-append terms (t ∷ []), is.count);
     firsts_are = firsts_are;
   }
     where
-      more_of : (us : List Tree) → AllByRecursion (λ a. has terms a ≡ true) us → AllByRecursion (λ a. has (terms ++ t ∷ []) a ≡ true) us
-      more_of us a = all_by (λ a. has terms a ≡ true) (λ a. has (terms ++ t ∷ []) a ≡ true) us (λ u g. has_old terms t u g) a
-
-      closed : IsClosed (terms ++ t ∷ [])
-      closed u g = or_last terms t u g (λ old. more_of (args_of u) (is.closed u old)) (λ _ same.
-          let P : Tree → Type 0 = λ x. AllByRecursion (λ a. has (terms ++ t ∷ []) a ≡ true) (args_of x) in
-          subst P (sym same) (more_of (args_of t) (entry_args t e)))
-
       last : slice_get (firsts ++ length table ∷ []) (length firsts) ≡ Some (length table)
       last = slice_get_read (firsts ++ length table ∷ []) (length (firsts ++ length table ∷ [])) (length firsts) (length table) refl
           (omega (arith, length-append firsts (length table ∷ []))) (sym (get_or-append_seam firsts (length table) [] (length table)))
@@ -141,40 +106,30 @@ module _ {table terms : List Tree} {firsts : List ℕ} (is : AreNumbered table t
 
   -- it is told by its number which of the two it is
 
-  pub entered_old : (t : Tree) → IsEntry table t → (new : List Tree) (n : ℕ) → new ≡ added terms t → n ≡ number_in new t → n < length firsts
+  pub entered_old : (t : Tree) → (new : List Tree) (n : ℕ) → new ≡ entered terms t → n ≡ number_in new t → n < length firsts
       → AreNumbered (table ++ t ∷ []) new firsts
-  entered_old t e new n grown is_number below = go (has terms t) refl
+  entered_old t new n grown is_number below = go (has terms t) refl
     where
-      here : (b : Bool) → has terms t ≡ b → new ≡ (if b then terms else terms ++ t ∷ [])
-      here b h = grown ∙ entry_added t e ∙ ap (λ c. if c then terms else terms ++ t ∷ []) h
-
       go : (b : Bool) → has terms t ≡ b → AreNumbered (table ++ t ∷ []) new firsts
       go true h =
           let P : List Tree → Type 0 = λ x. AreNumbered (table ++ t ∷ []) x firsts in
-          subst P (sym (here true h)) (old_entry t (sym (is.same t) ∙ h))
+          subst P (sym (grown ∙ entered_by t true h)) (old_entry t (sym (is.same t) ∙ h))
       go false h =
-          let l = is_number ∙ ap (λ x. number_in x t) (here false h) ∙ number_last terms t h in
+          let l = is_number ∙ ap (λ x. number_in x t) (grown ∙ entered_by t false h) ∙ number_last terms t h in
           absurd (omega (arith, l, is.count))
 
-  pub entered_new : (t : Tree) → IsEntry table t → (new : List Tree) (n : ℕ) → new ≡ added terms t → n ≡ number_in new t → length firsts ≤ n
+  pub entered_new : (t : Tree) → (new : List Tree) (n : ℕ) → new ≡ entered terms t → n ≡ number_in new t → length firsts ≤ n
       → AreNumbered (table ++ t ∷ []) new (firsts ++ length table ∷ [])
-  entered_new t e new n grown is_number above = go (has terms t) refl
+  entered_new t new n grown is_number above = go (has terms t) refl
     where
-      here : (b : Bool) → has terms t ≡ b → new ≡ (if b then terms else terms ++ t ∷ [])
-      here b h = grown ∙ entry_added t e ∙ ap (λ c. if c then terms else terms ++ t ∷ []) h
-
       go : (b : Bool) → has terms t ≡ b → AreNumbered (table ++ t ∷ []) new (firsts ++ length table ∷ [])
       go true h =
-          let f = found_number t (sym (is.same t) ∙ h) new n grown is_number in
-          absurd (omega (arith, slice_get_within firsts n (number_in table t) f.1))
+          let f = is.firsts_are t (sym (is.same t) ∙ h) in
+          let l = is_number ∙ ap (λ x. number_in x t) (grown ∙ entered_by t true h) in
+          absurd (omega (arith, l, slice_get_within firsts (number_in terms t) (number_in table t) f))
       go false h =
           let P : List Tree → Type 0 = λ x. AreNumbered (table ++ t ∷ []) x (firsts ++ length table ∷ []) in
-          subst P (sym (here false h)) (new_entry t e (sym (is.same t) ∙ h))
-
-  pub still_numbered : (t : Tree) → has table t ≡ true → (new : List Tree) → new ≡ added terms t → AreNumbered table new firsts
-  still_numbered t h new e =
-      let P : List Tree → Type 0 = λ x. AreNumbered table x firsts in
-      subst P (sym (e ∙ added_same terms is.closed t (is.same t ∙ h))) is
+          subst P (sym (grown ∙ entered_by t false h)) (new_entry t (sym (is.same t) ∙ h))
 
 -- the numbers of a list, one after another
 pub more_numbers : (f : Tree → ℕ) (ts : List Tree) (i : ℕ) (t : Tree) (ns new : List ℕ) (n : ℕ) → i < length ts → t ≡ get_or ts i t → new ≡ ns ++ n ∷ []

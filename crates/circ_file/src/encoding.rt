@@ -21,8 +21,7 @@ use circ_proof::{Block, Chain, GoalNames, Link, Proof, Step, Why};
 use circ_special::{Gamma, Place};
 use std::alloc::{AllocError, Global};
 
-/// The text of a proof. Costs a few look-ups for each node of the terms of its table, counted as
-/// trees.
+/// The text of a proof. Costs a few look-ups for each term of its table and its arguments.
 pub fn encode(alloc: Global, proof: &Proof) -> Result<Vec<u8>, AllocError>
     requires { IsProof (plain_proof proof.now) }
     ensures { IfOk result (λ text. text.items ≡ proof_text (plain_proof proof.now)) }

@@ -18,7 +18,7 @@ use circ_term::{Kind, Term};
 use smallvec::SmallVec;
 use std::alloc::{AllocError, Global};
 
-/// Appends the lines of a table. Costs a few look-ups for each node of its terms, counted as trees.
+/// Appends the lines of a table. Costs a few look-ups for each of its terms and their arguments.
 pub(crate) fn put_table(alloc: Global, table: &[Term], out: &mut Vec<u8>) -> Result<(), AllocError>
     requires entries { AreEntries [] table.now }
     requires short { length table.now ≤ term_limit }
@@ -56,10 +56,10 @@ impl Numbering {
     }
 
     // Appends the line of a term whose arguments have lines.
-    fn put(&mut self, term: &Term, out: &mut Vec<u8>) -> Result<(), AllocError>
-        requires { (table : List Tree) × IsNumbering table self.old × IsEntry table term.now }
-        ensures { OnOk result ((table : List Tree) → IsNumbering table self.old →
-            IsEntry table term.now → IsNumbering table self.new × Writes out.old.items
+    fn put(&self, term: &Term, out: &mut Vec<u8>) -> Result<(), AllocError>
+        requires { (table : List Tree) × IsNumbering table self.now × IsEntry table term.now }
+        ensures { OnOk result ((table : List Tree) → IsNumbering table self.now →
+            IsEntry table term.now → Writes out.old.items
             out.new.items (λ later. table_line (entry_of table term.now) ∷ later)) }
     {
         match term.kind() {
@@ -83,7 +83,7 @@ impl Numbering {
             IsEntry table term.now → length table < term_limit →
             IsNumbering (table ++ term.now ∷ []) self.new) }
     {
-        match self.terms.number(term)? {
+        match self.terms.enter(term)? {
             Some(number) => {
                 let line = self.lines;
                 self.lines += 1;
@@ -98,31 +98,27 @@ impl Numbering {
     }
 
     // The numbers of the first lines that have these terms.
-    fn numbers_of(&mut self, terms: &[Term]) -> Result<SmallVec<u32, 4>, AllocError>
-        requires { (table : List Tree) × IsNumbering table self.old ×
+    fn numbers_of(&self, terms: &[Term]) -> Result<SmallVec<u32, 4>, AllocError>
+        requires { (table : List Tree) × IsNumbering table self.now ×
             AllByRecursion (λ t. has table t ≡ true) terms.now }
-        ensures { IfOk result (λ numbers. (table : List Tree) → IsNumbering table self.old →
+        ensures { IfOk result (λ numbers. (table : List Tree) → IsNumbering table self.now →
             AllByRecursion (λ t. has table t ≡ true) terms.now →
-            IsNumbering table self.new × (numbers.items ≡ map (number_in table) terms.now)) }
+            numbers.items ≡ map (number_in table) terms.now) }
     {
         let mut numbers = SmallVec::new(self.alloc);
         for term in terms {
-            numbers.push(self.number_of(term)?)?;
+            numbers.push(self.number_of(term))?;
         }
         Ok(numbers)
     }
 
     // The number of the first line that has the term.
-    fn number_of(&mut self, term: &Term) -> Result<u32, AllocError>
-        requires { (table : List Tree) × IsNumbering table self.old ×
+    fn number_of(&self, term: &Term) -> u32
+        requires { (table : List Tree) × IsNumbering table self.now ×
             (has table term.now ≡ true) }
-        ensures { IfOk result (λ number. (table : List Tree) → IsNumbering table self.old →
-            has table term.now ≡ true →
-            IsNumbering table self.new × (number ≡ number_in table term.now)) }
+        ensures { (table : List Tree) → IsNumbering table self.now →
+            has table term.now ≡ true → result ≡ number_in table term.now }
     {
-        match self.terms.number(term)? {
-            Some(number) => Ok(self.firsts[number as usize]),
-            None => unreachable!(),
-        }
+        self.firsts[self.terms.known_number(term) as usize]
     }
 }

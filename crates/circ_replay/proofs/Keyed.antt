@@ -184,6 +184,22 @@ module _ (table : List Tree) (keys : List ℕ) (same : keys ≡ map fingerprint_
   sought_found k n e =
       let there = has_at table n t e in (there, sym (number_at [] table k.in_order n t e), nothing_added table k t there)
 
+  -- a term that is there is at the last number that is left
+  pub sought_last : (n : ℕ) → has table t ≡ true → IsSought table keys t (Some n) → ((k : ℕ) → slice_get keys n ≡ Some k → IsLastBelow keys k n None)
+      → n ≡ number_in table t
+  sought_last n there h older = below (cases_lt (number_in table t) n)
+    where
+      above : (n < number_in table t) ⊎ (number_in table t ≤ n) → n ≤ number_in table t → n ≡ number_in table t
+      above (inl b) c = absurd (h.others (number_in table t) b (number_names table t there))
+      above (inr b) c = omega arith
+
+      below : (number_in table t < n) ⊎ (n ≤ number_in table t) → n ≡ number_in table t
+      below (inl b) = absurd (older (fingerprint_of t) (h.key n refl) (number_in table t) b (key_at (number_in table t) (number_names table t there)))
+      below (inr b) = above (cases_lt n (number_in table t)) b
+
+  pub sought_none : has table t ≡ true → IsSought table keys t None → ⊥
+  sought_none there h = h.others (number_in table t) tt (number_names table t there)
+
   pub sought_ended : IsSought table keys t None → Finds table t None
   sought_ended h = go (has table t) refl
     where

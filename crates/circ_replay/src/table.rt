@@ -3,7 +3,8 @@ ghost use Rattle.std.specs.Prelude.{◌≡◌, ◌≤◌, ◌++◌, ◌∷◌, [
 ghost use Rattle.std.specs.List.{slice_get, AllByRecursion};
 ghost use Rattle.std.specs.Option.{IfSome};
 ghost use Rattle.circ_term.specs.Tree.{args_of, trees_of};
-ghost use Rattle.circ_proof.specs.Table.{IsTable, IsNext, Numbers, added, entered, has, term_limit};
+ghost use Rattle.circ_proof.specs.Table.{IsTable, IsNext, Numbers, added, entered, has};
+ghost use Rattle.circ_proof.specs.Table.{number_in, term_limit};
 ghost use Rattle.circ_replay.specs.Growing.{NumbersSoFar, AddsAllSoFar};
 ghost use Rattle.circ_replay.specs.Fingerprints.{Finds, IsKeyed};
 
@@ -78,6 +79,28 @@ impl TableBuilder {
         }
     }
 
+    /// The number of a term whose arguments are in the table. It goes last where it is new. None
+    /// where the table would then have too many terms. It is unchanged then, and after want of
+    /// memory.
+    pub fn enter(&mut self, term: &Term) -> Result<Option<u32>, AllocError>
+        requires { AllByRecursion (λ a. has self.old a ≡ true) (args_of term.now) }
+        ensures { Numbers self.old self.new (entered self.old term.now) term.now result }
+    {
+        match self.find(term) {
+            Some(number) => Ok(Some(number)),
+            None => self.put(term),
+        }
+    }
+
+    /// The number of a term that is in the table. By its code it is compared with none where no
+    /// other term has its fingerprint.
+    pub fn known_number(&self, term: &Term) -> u32
+        requires { has self.now term.now ≡ true }
+        ensures { result ≡ number_in self.now term.now }
+    {
+        find_known(self.terms.as_slice(), &self.chains, term)
+    }
+
     /// The terms, by their numbers.
     pub fn terms(&self) -> &[Term]
         ensures value { result.now ≡ self.now }
@@ -111,17 +134,6 @@ impl TableBuilder {
             };
         }
         Ok(true)
-    }
-
-    // The number of the term, whose arguments are there. It goes last where it is new.
-    fn enter(&mut self, term: &Term) -> Result<Option<u32>, AllocError>
-        requires { AllByRecursion (λ a. has self.old a ≡ true) (args_of term.now) }
-        ensures { Numbers self.old self.new (entered self.old term.now) term.now result }
-    {
-        match self.find(term) {
-            Some(number) => Ok(Some(number)),
-            None => self.put(term),
-        }
     }
 
     // The number of the term, if it is there.
@@ -169,4 +181,23 @@ fn find(terms: &[Term], chains: &HashChains, term: &Term) -> Option<u32>
         last = chains.older(number);
     }
     None
+}
+
+// The number of the term, which is there. Where one number is left it is that.
+fn find_known(terms: &[Term], chains: &HashChains, term: &Term) -> u32
+    requires keyed { IsKeyed terms.now chains.now }
+    requires there { has terms.now term.now ≡ true }
+    ensures { result ≡ number_in terms.now term.now }
+{
+    let Some(newest) = chains.newest(term.fingerprint()) else {
+        unreachable!();
+    };
+    let mut last = newest;
+    while let Some(next) = chains.older(last) {
+        if terms[last as usize].same(term) {
+            return last;
+        }
+        last = next;
+    }
+    last
 }

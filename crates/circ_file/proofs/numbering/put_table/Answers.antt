@@ -26,9 +26,8 @@ enter-requires c =
     let before = take at.term-index table in
     let P : List Tree → Type 0 = AreEntries before in
     let entries = subst P next at.invariant.entries in
-    let put = c.in_ok-put.ensures before at.invariant.numbering entries.0 in
     let short = ap length (take-append-drop at.term-index table) in
-    (before, put.0, entries.0, omega (arith, short, length-append before (drop at.term-index table), ap length next, c.requires.short))
+    (before, at.invariant.numbering, entries.0, omega (arith, short, length-append before (drop at.term-index table), ap length next, c.requires.short))
 
 pub loop-term-preserved : goal.loop-term-preserved
 loop-term-preserved c =
@@ -47,11 +46,11 @@ loop-term-preserved c =
     let short = ap length (take-append-drop i table) in
     record {
       numbering = subst R (sym longer)
-          (c.in_ok-enter.ensures before put.0 entries.0 (omega (arith, short, length-append before (drop i table), ap length next, c.requires.short)));
+          (c.in_ok-enter.ensures before at.invariant.numbering entries.0 (omega (arith, short, length-append before (drop i table), ap length next, c.requires.short)));
       entries = subst Q (sym longer) entries.1;
       writes = λ later.
           ap (λ ts. c.put.new.out.items ++ file_text (lines_of table_lines (entries_of ts (drop (i + 1) table)) later)) longer
-          ∙ put.1 (lines_of table_lines (entries_of (before ++ t ∷ []) (drop (i + 1) table)) later)
+          ∙ put (lines_of table_lines (entries_of (before ++ t ∷ []) (drop (i + 1) table)) later)
           ∙ ap (λ us. at.out.items ++ file_text (lines_of table_lines (entries_of before us) later)) (sym next)
           ∙ at.invariant.writes later;
     }

@@ -1,8 +1,7 @@
-use Rattle.std.proofs.Common.{◌≡◌, ◌∙◌, ℕ, length, Option, Some, None, IsTrue, false, refl, ap, sym, subst, arith}
-use Rattle.std.specs.List.{slice_get}
+use Rattle.std.proofs.Common.{◌∙◌, ℕ, length, Option, Some, IsTrue, false, refl, ap, sym, subst}
 use Rattle.std.proofs.lemmas.Option.{slice_get_read, same_Some}
 use Rattle.circ_hash_chains.specs.Keys.{IsLastBelow}
-use Rattle.circ_replay.proofs.Keyed.{IsSought, measure, sought_first, sought_next, sought_found, sought_ended}
+use Rattle.circ_replay.proofs.Keyed.{IsSought, sought_first, sought_next, sought_found, sought_ended}
 use Rattle.circ_replay.proofs.table.find.Goals as goal
 
 pub loop-last-init : goal.loop-last-init

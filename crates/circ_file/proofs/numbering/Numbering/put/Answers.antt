@@ -17,6 +17,6 @@ returns-in_ok-args-in-Application c =
     on_ok_weaker c.put_lent_line.result
     (λ w table is e.
     let numbers = c.in_ok-args-in-Application.ensures table is (entry_args_have table app.op app.sort app.args.now t app.ensures.value e) in
-    let line = entry_line table app.op app.sort app.args.now t c.as_slice-args.result.now app.ensures.value (c.as_slice-args.ensures ∙ numbers.1) in
-    (numbers.0, λ later. w later ∙ ap (λ l. c.args.out.now.items ++ file_text (table_line l ∷ later)) line))
+    let line = entry_line table app.op app.sort app.args.now t c.as_slice-args.result.now app.ensures.value (c.as_slice-args.ensures ∙ numbers) in
+    λ later. w later ∙ ap (λ l. c.args.out.now.items ++ file_text (table_line l ∷ later)) line)
     c.put_lent_line.ensures
