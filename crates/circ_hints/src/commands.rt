@@ -8,7 +8,7 @@ pub(crate) struct CommandWords {
 }
 
 /// All commands, in the order in which they are shown.
-pub(crate) const COMMANDS: [CommandWords; 14] = [
+pub(crate) const COMMANDS: &[CommandWords] = &[
     CommandWords {
         name: "prove",
         takes: "THEORY SCRIPT PROOF",
@@ -69,8 +69,10 @@ pub(crate) const COMMANDS: [CommandWords; 14] = [
 
 /// The command of this name.
 pub(crate) fn command_named(name: &str) -> Option<CommandWords> {
-    COMMANDS
-        .iter()
-        .find(|command| command.name == name)
-        .copied()
+    for n in 0..COMMANDS.len() {
+        if COMMANDS[n].name == name {
+            return Some(COMMANDS[n]);
+        }
+    }
+    None
 }

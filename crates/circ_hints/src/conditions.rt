@@ -66,19 +66,45 @@ fn is_hidden(
     part: Part,
     end: usize,
 ) -> Result<bool, AllocError> {
-    let mut text = declared_before(alloc, source, tokens, part)?;
-    let mut begin = part.from;
-    if is_conditional_goal(tokens, part) {
-        text.extend_from_slice(b"ceq ")?;
-        begin = part.nth(2);
-    }
-    push_range(&mut text, source.bytes, tokens, begin, end)?;
-    text.push(b'.')?;
+    let text = declared_up_to(alloc, source, tokens, part, end)?;
     match read_ended(alloc, text) {
         Ok(_) => Ok(false),
         Err(ReadFault::Memory) => Err(AllocError),
         Err(ReadFault::Statement { cause, .. }) => Ok(is_not_visible(&cause)),
     }
+}
+
+/// A theory's text with what is declared before a part, and the part up to a token as an equation.
+fn declared_up_to(
+    alloc: Global,
+    source: &Source<'_>,
+    tokens: &Tokens<'_>,
+    part: Part,
+    end: usize,
+) -> Result<Vec<u8>, AllocError> {
+    let mut text = declared_before(alloc, source, tokens, part)?;
+    match push_equation(&mut text, source.bytes, tokens, part, end) {
+        Ok(()) => Ok(text),
+        Err(fault) => Err(fault),
+    }
+}
+
+/// Appends a conditional equation up to a token, or a goal as one.
+fn push_equation(
+    text: &mut Vec<u8>,
+    bytes: &[u8],
+    tokens: &Tokens<'_>,
+    part: Part,
+    end: usize,
+) -> Result<(), AllocError> {
+    let mut begin = part.from;
+    if is_conditional_goal(tokens, part) {
+        text.extend_from_slice(b"ceq ")?;
+        begin = part.nth(2);
+    }
+    push_range(text, bytes, tokens, begin, end)?;
+    text.push(b'.')?;
+    Ok(())
 }
 
 fn is_not_visible(cause: &Cause) -> bool {

@@ -15,19 +15,25 @@ pub(crate) fn declared_before(
     part: Part,
 ) -> Result<Vec<u8>, AllocError> {
     let mut text = Vec::new(alloc);
-    if source.kind.is_script() {
-        push_body(alloc, &mut text, source.theory)?;
-        push_variables(&mut text, source.bytes, tokens, part.from)?;
-    } else {
-        push_range(
-            &mut text,
-            source.bytes,
-            tokens,
-            without_open(tokens, 0),
-            part.from,
-        )?;
+    match push_declared(alloc, &mut text, source, tokens, part.from) {
+        Ok(()) => Ok(text),
+        Err(fault) => Err(fault),
     }
-    Ok(text)
+}
+
+fn push_declared(
+    alloc: Global,
+    text: &mut Vec<u8>,
+    source: &Source<'_>,
+    tokens: &Tokens<'_>,
+    end: usize,
+) -> Result<(), AllocError> {
+    if source.kind.is_script() {
+        push_body(alloc, text, source.theory)?;
+        push_variables(text, source.bytes, tokens, end)
+    } else {
+        push_range(text, source.bytes, tokens, without_open(tokens, 0), end)
+    }
 }
 
 /// The theory that a text reads as, once it is ended.

@@ -15,8 +15,8 @@ pub(crate) struct Place {
 /// The number of bytes before the line in which a place is.
 fn line_begin(bytes: &[u8], at: usize) -> usize {
     let mut begin = 0;
-    for (n, byte) in bytes.iter().take(at).enumerate() {
-        if *byte == b'\n' {
+    for n in 0..at.min(bytes.len()) {
+        if bytes[n] == b'\n' {
             begin = n.saturating_add(1);
         }
     }
@@ -25,12 +25,13 @@ fn line_begin(bytes: &[u8], at: usize) -> usize {
 
 /// The number of the line in which a place is, from 1.
 fn line_number(bytes: &[u8], at: usize) -> usize {
-    bytes
-        .iter()
-        .take(at)
-        .filter(|byte| **byte == b'\n')
-        .count()
-        .saturating_add(1)
+    let mut line: usize = 1;
+    for n in 0..at.min(bytes.len()) {
+        if bytes[n] == b'\n' {
+            line = line.saturating_add(1);
+        }
+    }
+    line
 }
 
 /// The byte as it is shown: what a terminal would not print is a question mark.
@@ -58,30 +59,40 @@ pub(crate) fn push_position(
 
 /// Appends the line of a place, and below it the mark.
 pub(crate) fn push_picture(out: &mut String, bytes: &[u8], place: Place) -> Result<(), AllocError> {
+    let line = line_number(bytes, place.at);
     let begin = line_begin(bytes, place.at);
     let from = begin.max(place.at.saturating_sub(MOST_SHOWN));
-    let most = place.at.saturating_sub(from).saturating_add(MOST_SHOWN);
-    let line = line_number(bytes, place.at);
     write!(out, "{line:6} | ")?;
-    for byte in rest_from(bytes, from).iter().take(most) {
-        if *byte == b'\n' {
-            break;
-        }
-        out.push(shown(*byte))?;
-    }
-    out.push_str("\n       | ")?;
-    push_mark(out, place.at.saturating_sub(from), place.width)
+    push_below(
+        out,
+        rest_from(bytes, from),
+        place.at.saturating_sub(from),
+        place.width,
+    )
 }
 
-/// Appends a mark of some width, of one at least, behind so many blanks.
-fn push_mark(out: &mut String, blanks: usize, width: usize) -> Result<(), AllocError> {
-    for _ in 0..blanks {
-        out.push(' ')?;
+/// Appends the line that begins with these bytes, and below it a mark of some width behind so many
+/// of them.
+fn push_below(
+    out: &mut String,
+    bytes: &[u8],
+    blanks: usize,
+    width: usize,
+) -> Result<(), AllocError> {
+    push_shown(out, bytes, blanks.saturating_add(MOST_SHOWN))?;
+    let width = width.clamp(1, MOST_SHOWN);
+    writeln!(out, "\n       | {:blanks$}{:^<width$}", "", "")
+}
+
+/// Appends the bytes up to the end of their line, as they are shown, and so many at most.
+fn push_shown(out: &mut String, bytes: &[u8], most: usize) -> Result<(), AllocError> {
+    for n in 0..most.min(bytes.len()) {
+        if bytes[n] == b'\n' {
+            break;
+        }
+        out.push(shown(bytes[n]))?;
     }
-    for _ in 0..width.clamp(1, MOST_SHOWN) {
-        out.push('^')?;
-    }
-    out.push('\n')
+    Ok(())
 }
 
 /// The bytes of a place.

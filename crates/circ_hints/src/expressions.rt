@@ -1,7 +1,7 @@
 //! The hint for a word of `regex` that is no expression.
 use crate::drawing::{Place, push_picture};
 use crate::run_words::Asked;
-use crate::texts::push_line;
+use crate::texts::written;
 use circ_read::Cause;
 use std::alloc::{AllocError, Global};
 use std::fmt::Write;
@@ -27,11 +27,12 @@ pub fn unread_expression(
     cause: &Cause,
 ) -> Result<String, AllocError> {
     let mut out = String::new(alloc);
-    if let Some(word) = asked.expression(number) {
-        let side = if number == 1 { "LEFT" } else { "RIGHT" };
-        push_fault(&mut out, side, word.as_bytes(), cause)?;
-    }
-    Ok(out)
+    let side = if number == 1 { "LEFT" } else { "RIGHT" };
+    let done = match asked.expression(number) {
+        Some(word) => push_fault(&mut out, side, word.as_bytes(), cause),
+        None => Ok(()),
+    };
+    written(out, done)
 }
 
 fn push_fault(out: &mut String, side: &str, word: &[u8], cause: &Cause) -> Result<(), AllocError> {
@@ -39,10 +40,13 @@ fn push_fault(out: &mut String, side: &str, word: &[u8], cause: &Cause) -> Resul
         Cause::Limit { .. } => (0, "an expression has 1,000 bytes at most"),
         _ => fault_of(word),
     };
-    let column = at.saturating_add(1);
-    write!(out, "{side}:{column}")?;
-    push_line(out, ": ", says)?;
+    push_column(out, side, at.saturating_add(1), says)?;
     push_picture(out, word, Place { at, width: 1 })
+}
+
+/// Appends what is said of a column of a side.
+fn push_column(out: &mut String, side: &str, column: usize, says: &str) -> Result<(), AllocError> {
+    writeln!(out, "{side}:{column}: {says}")
 }
 
 /// The place of the first sign at which a word is no expression, and why.
@@ -51,11 +55,11 @@ fn fault_of(word: &[u8]) -> (usize, &'static str) {
         open: 0,
         wants: true,
     };
-    for (at, sign) in word.iter().enumerate() {
-        if let Some(says) = scan.fault(*sign) {
+    for at in 0..word.len() {
+        if let Some(says) = scan.fault(word[at]) {
             return (at, says);
         }
-        scan.take(*sign);
+        scan.take(word[at]);
     }
     let says = if scan.wants {
         "an a, b, 0, 1 or ( is expected here"

@@ -1,63 +1,58 @@
 //! What the statements before a place declare, by their words alone.
+use crate::drawing::{Place, bytes_at, rest_from};
 use crate::parts::{Part, first, is, is_either, next};
 use crate::unreadable_hint::Source;
 use circ_lexer::Tokens;
 use circ_lib::lookup;
 use indexmap::IndexSet;
 use std::alloc::{AllocError, Global};
-use std::str;
 
-/// What names are wanted.
-#[derive(Clone, Copy, PartialEq, Eq)]
-pub(crate) enum Wanted {
-    /// The names of sorts.
-    Sorts,
-    /// The names of variables, and the words of the operators' forms.
-    Words,
-}
-
-/// The names of one kind that are declared.
+/// The names that are declared.
 #[derive(Drop)]
 pub(crate) struct Known<'a> {
-    wanted: Wanted,
-    names: IndexSet<&'a [u8]>,
+    /// The names of sorts.
+    sorts: IndexSet<&'a [u8]>,
+    /// The names of variables, and the words of the operators' forms.
+    words: IndexSet<&'a [u8]>,
 }
 
 impl<'a> Known<'a> {
     /// What is declared before a token of a text, in a script also by the theory.
     pub fn before(
         alloc: Global,
-        wanted: Wanted,
         source: &Source<'a>,
         tokens: &Tokens<'a>,
         end: usize,
-    ) -> Result<Known<'a>, AllocError> {
-        let mut known = Known::new(alloc, wanted);
+    ) -> Result<Box<Known<'a>>, AllocError> {
+        let mut known = Known::new(alloc)?;
         match known.add_all(alloc, source, tokens, end) {
             Ok(()) => Ok(known),
-            Err(fault) => {
-                drop(known);
-                Err(fault)
-            }
+            Err(fault) => Err(fault),
         }
     }
 
     /// Nothing.
-    fn new(alloc: Global, wanted: Wanted) -> Known<'a> {
-        Known {
-            wanted,
-            names: IndexSet::new(alloc),
-        }
+    fn new(alloc: Global) -> Result<Box<Known<'a>>, AllocError> {
+        let known = Known {
+            sorts: IndexSet::new(alloc),
+            words: IndexSet::new(alloc),
+        };
+        Ok(Box::new(alloc, known)?)
     }
 
-    /// Whether a name is declared.
-    pub fn has(&self, name: &[u8]) -> bool {
-        self.names.contains(name)
+    /// Whether a sort is declared.
+    pub fn has_sort(&self, name: &[u8]) -> bool {
+        self.sorts.contains(name)
     }
 
-    /// The name that so many were declared before.
-    pub fn name(&self, number: u32) -> Option<&'a [u8]> {
-        self.names.get_index(number as usize).copied()
+    /// Whether a variable or a word of an operator is declared.
+    pub fn has_word(&self, name: &[u8]) -> bool {
+        self.words.contains(name)
+    }
+
+    /// The sort that so many were declared before.
+    pub fn sort(&self, number: u32) -> Option<&'a [u8]> {
+        self.sorts.get_index(number as usize).copied()
     }
 
     /// Adds what the theory of a script declares, and then what the text does before a token.
@@ -125,19 +120,18 @@ impl<'a> Known<'a> {
 
     /// Adds what a statement declares.
     fn declare(&mut self, tokens: &Tokens<'a>, part: Part) -> Result<(), AllocError> {
-        let end = first(tokens, part.from, part.to, b":").unwrap_or(part.to);
-        match self.wanted {
-            Wanted::Sorts if is_either(tokens, part.from, b"sort", b"sorts") => {
-                add_names(&mut self.names, tokens, part.nth(1), end)
-            }
-            Wanted::Words if is_either(tokens, part.from, b"var", b"vars") => {
-                add_names(&mut self.names, tokens, part.nth(1), end)
-            }
-            Wanted::Words if is_either(tokens, part.from, b"op", b"ops") => {
-                add_forms(&mut self.names, tokens, part.nth(1), end)
-            }
-            _ => Ok(()),
+        let from = part.nth(1);
+        let to = first(tokens, part.from, part.to, b":").unwrap_or(part.to);
+        if is_either(tokens, part.from, b"sort", b"sorts") {
+            return add_names(&mut self.sorts, tokens, from, to);
         }
+        if is_either(tokens, part.from, b"var", b"vars") {
+            return add_names(&mut self.words, tokens, from, to);
+        }
+        if is_either(tokens, part.from, b"op", b"ops") {
+            return add_forms(&mut self.words, tokens, from, to);
+        }
+        Ok(())
     }
 }
 
@@ -212,11 +206,14 @@ fn add_forms<'a>(
 
 /// Adds what stands between the holes of a form.
 fn add_pieces<'a>(words: &mut IndexSet<&'a [u8]>, form: &'a [u8]) -> Result<(), AllocError> {
-    let Ok(text) = str::from_utf8(form) else {
-        return Ok(());
-    };
-    for piece in text.split('_') {
-        words.insert(piece.as_bytes())?;
+    let mut at = 0;
+    for n in 0..form.len() {
+        if form[n] == b'_' {
+            let width = n.saturating_sub(at);
+            words.insert(bytes_at(form, Place { at, width }))?;
+            at = next(n);
+        }
     }
+    words.insert(rest_from(form, at))?;
     Ok(())
 }

@@ -1,5 +1,6 @@
 //! The hint for an experiment that does not fit a goal.
 use crate::run_words::Asked;
+use crate::texts::written;
 use std::alloc::{AllocError, Global};
 use std::fmt::Write;
 
@@ -10,15 +11,21 @@ const GOAL_WORD: usize = 3;
 /// an entry, or of the one behind the last.
 pub fn misfit(alloc: Global, asked: Asked<'_>, entry: u64) -> Result<String, AllocError> {
     let mut out = String::new(alloc);
+    let done = push_misfit(&mut out, asked, entry);
+    written(out, done)
+}
+
+fn push_misfit(out: &mut String, asked: Asked<'_>, entry: u64) -> Result<(), AllocError> {
     if entry == 0 {
-        out.push_str("circ: the proof has no such goal: `check` prints its goals, from 1 on\n")?;
-    } else if asked.has_at_least(GOAL_WORD.saturating_add(entry as usize)) {
-        write!(
-            out,
-            "circ: entry {entry} is no derivative of what is reached: `show` has all, from 0 on\n"
-        )?;
-    } else {
-        out.push_str("circ: what is reached is of a hidden sort: one entry more is needed\n")?;
+        return out.push_str(
+            "circ: the proof has no such goal: `check` prints its goals, from 1 on\n",
+        );
     }
-    Ok(out)
+    if asked.has_at_least(GOAL_WORD.saturating_add(entry as usize)) {
+        return writeln!(
+            out,
+            "circ: entry {entry} is no derivative of what is reached: `show` has all, from 0 on"
+        );
+    }
+    out.push_str("circ: what is reached is of a hidden sort: one entry more is needed\n")
 }

@@ -4,7 +4,7 @@ use crate::parts::{Part, first, is};
 use circ_lexer::Tokens;
 
 /// The first words of statements.
-const STATEMENT_WORDS: [&[u8]; 14] = [
+const STATEMENT_WORDS: &[&[u8]] = &[
     b"inc",
     b"including",
     b"pr",
@@ -22,16 +22,26 @@ const STATEMENT_WORDS: [&[u8]; 14] = [
 ];
 
 /// The first words of items, beside those of variables.
-const ITEM_WORDS: [&[u8]; 4] = [b"add", b"coinduction", b"red", b"reduce"];
+const ITEM_WORDS: &[&[u8]] = &[b"add", b"coinduction", b"red", b"reduce"];
 
 /// Whether a token begins a statement.
 pub(crate) fn begins_statement(tokens: &Tokens<'_>, number: usize) -> bool {
-    STATEMENT_WORDS.iter().any(|word| is(tokens, number, word))
+    is_one_of(tokens, number, STATEMENT_WORDS)
 }
 
 /// Whether a token begins an item that declares nothing.
 pub(crate) fn begins_work(tokens: &Tokens<'_>, number: usize) -> bool {
-    ITEM_WORDS.iter().any(|word| is(tokens, number, word))
+    is_one_of(tokens, number, ITEM_WORDS)
+}
+
+/// Whether the token of a number is one of these words.
+fn is_one_of(tokens: &Tokens<'_>, number: usize, words: &[&[u8]]) -> bool {
+    for n in 0..words.len() {
+        if is(tokens, number, words[n]) {
+            return true;
+        }
+    }
+    false
 }
 
 /// What is said of an `if` where it begins conditions that may not stand there. None if a `then` of

@@ -38,12 +38,23 @@ pub(crate) fn unread_behind(
     from: usize,
 ) -> Result<Option<Mark>, AllocError> {
     let text = declared_before(alloc, source, tokens, part)?;
-    let Ok(theory) = read_ended(alloc, text) else {
-        return Ok(None);
-    };
+    match read_ended(alloc, text) {
+        Ok(theory) => unread_in(alloc, &theory, tokens, part, from),
+        Err(_) => Ok(None),
+    }
+}
+
+/// The same in a theory of what is declared before the part.
+fn unread_in(
+    alloc: Global,
+    theory: &Theory,
+    tokens: &Tokens<'_>,
+    part: Part,
+    from: usize,
+) -> Result<Option<Mark>, AllocError> {
     let reader = Reader {
         alloc,
-        theory: &theory,
+        theory,
         tokens,
         hole: is(tokens, part.from, b"derivative"),
     };
@@ -78,19 +89,46 @@ impl Reader<'_> {
         if self.most_tries(from, to) == 0 {
             return Ok(Some(Mark::at(from, NO_TERM)));
         }
-        let Some(equals) = first(self.tokens, from, to, b"=") else {
-            return self.unread_term(from, to);
-        };
-        if let Some(mark) = self.unread_term(from, equals)? {
-            return Ok(Some(mark));
+        match first(self.tokens, from, to, b"=") {
+            Some(equals) => self.unread_sides(from, equals, to),
+            None => self.unread_term(from, to),
         }
-        if let Some(mark) = self.unread_term(next(equals), to)? {
-            return Ok(Some(mark));
+    }
+
+    /// The mark of the first of two sides that does not read, or of both.
+    fn unread_sides(
+        &self,
+        from: usize,
+        sign: usize,
+        to: usize,
+    ) -> Result<Option<Mark>, AllocError> {
+        match self.unread_term(from, sign) {
+            Ok(None) => self.unread_right(from, sign, to),
+            done => done,
         }
-        if self.reads_pair(from, equals, to)? {
-            return Ok(None);
+    }
+
+    /// The mark of the right side, or of both.
+    fn unread_right(
+        &self,
+        from: usize,
+        sign: usize,
+        to: usize,
+    ) -> Result<Option<Mark>, AllocError> {
+        match self.unread_term(next(sign), to) {
+            Ok(None) => self.unread_both(from, sign, to),
+            done => done,
         }
-        Ok(Some(Mark::at(from, "each side spells a term, but not both of one sort")))
+    }
+
+    /// The mark of two sides that are not of one sort.
+    fn unread_both(&self, from: usize, sign: usize, to: usize) -> Result<Option<Mark>, AllocError> {
+        let says = "each side spells a term, but not both of one sort";
+        match self.reads_pair(from, sign, to) {
+            Ok(true) => Ok(None),
+            Ok(false) => Ok(Some(Mark::at(from, says))),
+            Err(fault) => Err(fault),
+        }
     }
 
     /// The mark of a term that does not read: behind the longest part of it that does, or where it
@@ -99,12 +137,19 @@ impl Reader<'_> {
         if to <= from {
             return Ok(Some(Mark::behind(from.saturating_sub(1), "a term is expected here")));
         }
-        if self.reads(from, to)? {
-            return Ok(None);
+        match self.reads(from, to) {
+            Ok(true) => Ok(None),
+            Ok(false) => self.unread_rest(from, to),
+            Err(fault) => Err(fault),
         }
-        match self.longest(from, to)? {
-            Some(end) => Ok(Some(mark_behind(end, to))),
-            None => Ok(Some(Mark::at(from, NO_TERM))),
+    }
+
+    /// The mark behind the longest part of a term that reads, or where the term begins.
+    fn unread_rest(&self, from: usize, to: usize) -> Result<Option<Mark>, AllocError> {
+        match self.longest(from, to) {
+            Ok(Some(end)) => Ok(Some(mark_behind(end, to))),
+            Ok(None) => Ok(Some(Mark::at(from, NO_TERM))),
+            Err(fault) => Err(fault),
         }
     }
 

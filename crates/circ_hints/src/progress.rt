@@ -65,9 +65,8 @@ impl<R: Clock + Eprint + AllocGlobal + Drop> Line<R> {
     /// A file is begun.
     fn start(&mut self, name: &str) {
         self.clear();
-        let mut copy = String::new(self.rt.alloc());
-        let _ = copy.push_str(name);
-        self.name = copy;
+        self.name.clear();
+        let _ = self.name.push_str(name);
         self.bytes = 0;
         self.told = Instant::now(&self.rt).ok();
     }

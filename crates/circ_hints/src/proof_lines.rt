@@ -6,8 +6,8 @@ use crate::parts::next;
 pub(crate) fn line_at(bytes: &[u8], number: u64) -> Place {
     let mut line: u64 = 1;
     let mut place = Place { at: 0, width: 0 };
-    for (n, byte) in bytes.iter().enumerate() {
-        if *byte == b'\n' {
+    for n in 0..bytes.len() {
+        if bytes[n] == b'\n' {
             line = line.saturating_add(1);
             if line == number {
                 place = Place {
@@ -25,14 +25,14 @@ pub(crate) fn line_at(bytes: &[u8], number: u64) -> Place {
 /// Where a word begins a line for the first time.
 pub(crate) fn word_at_line(bytes: &[u8], word: &[u8]) -> Place {
     let mut begins = true;
-    for (n, byte) in bytes.iter().enumerate() {
-        if begins && rest_from(bytes, n).starts_with(word) {
+    for n in 0..bytes.len() {
+        if begins && bytes[n..].starts_with(word) {
             return Place {
                 at: n,
                 width: word.len(),
             };
         }
-        begins = *byte == b'\n';
+        begins = bytes[n] == b'\n';
     }
     Place { at: 0, width: 0 }
 }
@@ -62,9 +62,19 @@ pub(crate) fn says_of_line(bytes: &[u8], place: Place, number: u64) -> &'static 
 fn says_of_empty(bytes: &[u8], place: Place) -> &'static str {
     if bytes[..place.at.min(bytes.len())].ends_with(b"\nend\n") {
         "nothing stands behind the line `end`"
-    } else if rest_from(bytes, place.at).iter().all(|byte| *byte == b'\n') {
+    } else if are_line_feeds(bytes, place.at) {
         "the text is cut here"
     } else {
         "a proof has no empty lines"
     }
+}
+
+/// Whether line feeds stand from a place on, and nothing else.
+fn are_line_feeds(bytes: &[u8], from: usize) -> bool {
+    for n in from..bytes.len() {
+        if bytes[n] != b'\n' {
+            return false;
+        }
+    }
+    true
 }

@@ -1,6 +1,7 @@
 //! The words of a run, without its options.
 use crate::unreadable_hint::SourceKind;
 use std::alloc::AllocError;
+use std::fmt::Write;
 
 /// The words of a run, of which the first is the program's name.
 #[derive(Clone, Copy)]
@@ -16,10 +17,7 @@ impl<'a> Asked<'a> {
 
     /// The command; empty if there is none.
     pub fn command(&self) -> &'a str {
-        match self.plain(0) {
-            Some(word) => word,
-            None => "",
-        }
+        self.plain(0).unwrap_or("")
     }
 
     /// The name of a file, by its number from 1. The words of `regex` are no files.
@@ -62,26 +60,40 @@ impl<'a> Asked<'a> {
 
     /// Whether `--split` is there, by which cases make goals of others too.
     pub fn splits(&self) -> bool {
-        self.words.iter().any(|word| word.as_str() == "--split")
+        self.has("--split")
     }
 
     /// Whether `--rewrite` is there, by which hypotheses are rules.
     pub(crate) fn rewrites(&self) -> bool {
-        self.words.iter().any(|word| word.as_str() == "--rewrite")
+        self.has("--rewrite")
+    }
+
+    /// Whether a flag is there.
+    fn has(&self, flag: &str) -> bool {
+        for n in 0..self.words.len() {
+            if self.words[n].as_str() == flag {
+                return true;
+            }
+        }
+        false
     }
 
     /// The first word before `--` that looks like an option and is none.
     pub(crate) fn unknown_option(&self) -> Option<&'a str> {
         let mut is_value = false;
-        for word in self.words.iter().skip(1) {
-            let word = word.as_str();
-            if !is_value && word == "--" {
+        for n in 1..self.words.len() {
+            let word = self.words[n].as_str();
+            if is_value {
+                is_value = false;
+                continue;
+            }
+            if word == "--" {
                 return None;
             }
-            if !is_value && is_option(word) && !is_known(word) {
+            if is_option(word) && !is_known(word) {
                 return Some(word);
             }
-            is_value = !is_value && takes_value(word);
+            is_value = takes_value(word);
         }
         None
     }
@@ -90,20 +102,14 @@ impl<'a> Asked<'a> {
     /// options, and without the name of the proof.
     pub(crate) fn push_as(&self, out: &mut String, command: &str) -> Result<(), AllocError> {
         let mut count: u64 = 0;
-        let mut is_value = false;
-        let mut all_plain = false;
-        for word in self.words.iter().skip(1) {
-            let word = word.as_str();
-            if is_value {
-                is_value = false;
-                push_word(out, word)?;
-            } else if !all_plain && is_option(word) {
-                all_plain = word == "--";
-                is_value = takes_value(word);
-                push_word(out, word)?;
-            } else {
+        let mut walk = Walk::new();
+        for n in 1..self.words.len() {
+            let word = self.words[n].as_str();
+            if walk.is_plain(word) {
                 push_one_as(out, word, count, command)?;
                 count = count.saturating_add(1);
+            } else {
+                push_word(out, word)?;
             }
         }
         Ok(())
@@ -111,8 +117,8 @@ impl<'a> Asked<'a> {
 
     /// Appends all words as they are.
     pub(crate) fn push_all(&self, out: &mut String) -> Result<(), AllocError> {
-        for word in self.words.iter().skip(1) {
-            push_word(out, word.as_str())?;
+        for n in 1..self.words.len() {
+            push_word(out, self.words[n].as_str())?;
         }
         Ok(())
     }
@@ -120,22 +126,50 @@ impl<'a> Asked<'a> {
     /// The word that so many come before which are no options and none of their values.
     fn plain(&self, number: usize) -> Option<&'a str> {
         let mut left = number;
-        let mut is_value = false;
-        let mut all_plain = false;
-        for word in self.words.iter().skip(1) {
-            let word = word.as_str();
-            if is_value {
-                is_value = false;
-            } else if !all_plain && is_option(word) {
-                all_plain = word == "--";
-                is_value = takes_value(word);
-            } else if left == 0 {
-                return Some(word);
-            } else {
+        let mut walk = Walk::new();
+        for n in 1..self.words.len() {
+            let word = self.words[n].as_str();
+            if walk.is_plain(word) {
+                if left == 0 {
+                    return Some(word);
+                }
                 left = left.saturating_sub(1);
             }
         }
         None
+    }
+}
+
+/// What the words so far say of the next one.
+#[derive(Clone, Copy)]
+struct Walk {
+    /// Whether it is the value of an option.
+    is_value: bool,
+    /// Whether `--` came, behind which nothing is an option.
+    all_plain: bool,
+}
+
+impl Walk {
+    /// Before the first word.
+    fn new() -> Walk {
+        Walk {
+            is_value: false,
+            all_plain: false,
+        }
+    }
+
+    /// Goes over a word, and says whether it is neither an option nor the value of one.
+    fn is_plain(&mut self, word: &str) -> bool {
+        if self.is_value {
+            self.is_value = false;
+            return false;
+        }
+        if self.all_plain || !is_option(word) {
+            return true;
+        }
+        self.all_plain = word == "--";
+        self.is_value = takes_value(word);
+        false
     }
 }
 
@@ -151,13 +185,21 @@ fn push_one_as(out: &mut String, word: &str, count: u64, command: &str) -> Resul
 
 /// Appends a word behind a blank, between quotes where a shell would take it apart.
 pub(crate) fn push_word(out: &mut String, word: &str) -> Result<(), AllocError> {
-    out.push(' ')?;
-    if !word.is_empty() && word.as_bytes().iter().all(|byte| is_of_a_word(*byte)) {
-        return out.push_str(word);
+    if is_of_one_word(word.as_bytes()) {
+        write!(out, " {word}")
+    } else {
+        write!(out, " '{word}'")
     }
-    out.push('\'')?;
-    out.push_str(word)?;
-    out.push('\'')
+}
+
+/// Whether a shell takes the bytes as one word that says what stands there.
+fn is_of_one_word(bytes: &[u8]) -> bool {
+    for n in 0..bytes.len() {
+        if !is_of_a_word(bytes[n]) {
+            return false;
+        }
+    }
+    !bytes.is_empty()
 }
 
 /// Whether a shell takes the byte as it stands.

@@ -74,13 +74,19 @@ pub(crate) fn no_name(tokens: &Tokens<'_>, from: usize, to: usize) -> Option<usi
 /// The first token that ends with a stop which should stand by itself.
 pub(crate) fn glued_stop(tokens: &Tokens<'_>, part: Part) -> Option<Mark> {
     for number in part.from..part.to {
-        if let Some(token) = tokens.token(number) {
-            if token.len() > 1 && token.ends_with(b".") {
-                return Some(Mark::at_last_byte(number, "the stop needs a blank before it"));
-            }
+        if has_glued_stop(tokens, number) {
+            return Some(Mark::at_last_byte(number, "the stop needs a blank before it"));
         }
     }
     None
+}
+
+/// Whether a token ends with a stop, and is more than it.
+fn has_glued_stop(tokens: &Tokens<'_>, number: usize) -> bool {
+    match tokens.token(number) {
+        Some(token) => token.len() > 1 && token.ends_with(b"."),
+        None => false,
+    }
 }
 
 /// The mark of an `endtheory` behind which something stands, or not its parenthesis.
@@ -126,19 +132,23 @@ fn missing_stop(tokens: &Tokens<'_>, source: &[u8], part: Part) -> Option<Mark> 
 
 /// Whether a token stands on another line than the one before it.
 fn begins_line(tokens: &Tokens<'_>, source: &[u8], number: usize) -> bool {
-    let before = match tokens.span(number.saturating_sub(1)) {
-        Some(span) => span.to,
-        None => return false,
+    let Some(before) = tokens.span(number.saturating_sub(1)) else {
+        return false;
     };
-    let begin = match tokens.span(number) {
-        Some(span) => span.from,
-        None => return false,
+    let Some(word) = tokens.span(number) else {
+        return false;
     };
-    source
-        .iter()
-        .take(begin)
-        .skip(before)
-        .any(|byte| *byte == b'\n')
+    has_line_feed(source, before.to, word.from)
+}
+
+/// Whether a line feed stands in a range of bytes.
+fn has_line_feed(bytes: &[u8], from: usize, to: usize) -> bool {
+    for n in from..to.min(bytes.len()) {
+        if bytes[n] == b'\n' {
+            return true;
+        }
+    }
+    false
 }
 
 /// The mark of a statement, by its first word.
@@ -221,16 +231,20 @@ fn second_sign(tokens: &Tokens<'_>, part: Part, sign: usize, second: usize) -> M
 /// The first token with a `=` in it that should stand by itself.
 fn glued_sign(tokens: &Tokens<'_>, part: Part) -> Option<Mark> {
     for number in part.from..part.to {
-        if let Some(token) = tokens.token(number) {
-            if token.len() > 1 && token.contains(&b'=') && !is_order(token) {
-                return Some(Mark::naming(
-                    number,
-                    "`=` stands by itself, with a blank on each side",
-                ));
-            }
+        if has_glued_sign(tokens, number) {
+            let says = "`=` stands by itself, with a blank on each side";
+            return Some(Mark::naming(number, says));
         }
     }
     None
+}
+
+/// Whether a token has a `=` in it that should stand by itself.
+fn has_glued_sign(tokens: &Tokens<'_>, number: usize) -> bool {
+    match tokens.token(number) {
+        Some(token) => token.len() > 1 && token.contains(&b'=') && !is_order(token),
+        None => false,
+    }
 }
 
 /// Whether a token with a `=` in it is a common word of an operator.

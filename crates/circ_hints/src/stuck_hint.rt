@@ -1,8 +1,10 @@
 //! The hints for a search that is stuck or goes on too long, and for a proof that is refused.
+use crate::conditions::is_conditional_goal;
 use crate::drawing::{Place, push_picture, push_position};
 use crate::parts::{Part, behind_item, is, item_from};
 use crate::run_words::{Asked, push_word};
 use crate::seen_lines::Seen;
+use crate::texts::written;
 use circ_lexer::Tokens;
 use std::alloc::{AllocError, Global};
 use std::fmt::Write;
@@ -20,32 +22,50 @@ pub fn stuck_end(
     script: &[u8],
 ) -> Result<String, AllocError> {
     let mut out = String::new(alloc);
-    out.push_str(if seen.cases >= MOST_CASES {
+    let is_for_differ = seen.are_constants && !has_conditions(alloc, script);
+    let done = push_end(&mut out, asked, seen.cases, is_for_differ);
+    written(out, done)
+}
+
+/// Appends what a search lacks that is stuck in so many cases.
+fn push_end(
+    out: &mut String,
+    asked: Asked<'_>,
+    cases: u64,
+    is_for_differ: bool,
+) -> Result<(), AllocError> {
+    let says = if cases >= MOST_CASES {
         "circ: 8 cases stand inside one another, as many as there may be\n"
     } else {
         "circ: no rule, hypothesis or lemma leads on, and nothing is left to split on\n"
-    })?;
-    if seen.are_constants && !has_conditions(alloc, script) {
-        push_difference(&mut out, asked)?;
+    };
+    out.push_str(says)?;
+    if is_for_differ {
+        push_difference(out, asked)
+    } else {
+        Ok(())
     }
-    Ok(out)
 }
 
 /// Whether a goal of a script has conditions, which `differ` does not take.
 fn has_conditions(alloc: Global, script: &[u8]) -> bool {
-    let Ok(tokens) = Tokens::of(alloc, script) else {
-        return false;
-    };
+    match Tokens::of(alloc, script) {
+        Ok(tokens) => has_conditional_goal(&tokens),
+        Err(_) => false,
+    }
+}
+
+fn has_conditional_goal(tokens: &Tokens<'_>) -> bool {
     let mut from = 0;
     for _ in 0..tokens.count() {
-        let item = item_from(&tokens, from);
+        let item = item_from(tokens, from);
         if !item.is_ended {
             return false;
         }
-        if is(&tokens, item.from, b"add") && is(&tokens, item.nth(1), b"cgoal") {
+        if is_conditional_goal(tokens, item) {
             return true;
         }
-        from = behind_item(&tokens, from, item);
+        from = behind_item(tokens, from, item);
     }
     false
 }
@@ -54,12 +74,7 @@ fn has_conditions(alloc: Global, script: &[u8]) -> bool {
 fn push_difference(out: &mut String, asked: Asked<'_>) -> Result<(), AllocError> {
     out.push_str("circ: is it false? ")?;
     if asked.command() == "regex" {
-        out.push_str("tools/regex-word")?;
-        for number in 1..=2 {
-            if let Some(word) = asked.expression(number) {
-                push_word(out, word)?;
-            }
-        }
+        push_regex_words(out, asked)?;
     } else {
         out.push_str("circ")?;
         asked.push_as(out, "differ")?;
@@ -67,20 +82,37 @@ fn push_difference(out: &mut String, asked: Asked<'_>) -> Result<(), AllocError>
     out.push('\n')
 }
 
+/// Appends the call that seeks a word of one language alone.
+fn push_regex_words(out: &mut String, asked: Asked<'_>) -> Result<(), AllocError> {
+    out.push_str("tools/regex-word")?;
+    for number in 1..=2 {
+        if let Some(word) = asked.expression(number) {
+            push_word(out, word)?;
+        }
+    }
+    Ok(())
+}
+
 /// The calls that may help with a search that finds no proof: the one that shows its turns, and the
 /// one with the flags that the words lack, unless both sides are constants without a case, which no
 /// flag makes equal. Empty if the words are of no search.
 pub fn search_calls(alloc: Global, asked: Asked<'_>, seen: Seen) -> Result<String, AllocError> {
     let mut out = String::new(alloc);
+    let done = push_calls(&mut out, asked, seen);
+    written(out, done)
+}
+
+fn push_calls(out: &mut String, asked: Asked<'_>, seen: Seen) -> Result<(), AllocError> {
     let is_prove = asked.command() == "prove";
     if is_prove {
-        push_trace(&mut out, asked)?;
+        push_trace(out, asked)?;
     }
     let is_decided = seen.are_constants && seen.cases == 0;
     if (is_prove || asked.command() == "regex") && !is_decided {
-        push_with_flags(&mut out, asked)?;
+        push_with_flags(out, asked)
+    } else {
+        Ok(())
     }
-    Ok(out)
 }
 
 /// Appends the call that shows the turns of the search of a `prove`.
@@ -96,13 +128,14 @@ fn push_with_flags(out: &mut String, asked: Asked<'_>) -> Result<(), AllocError>
     if rewrites && splits {
         return Ok(());
     }
-    out.push_str("circ: is it found so? circ")?;
-    if !rewrites {
-        out.push_str(" --rewrite")?;
-    }
-    if !splits {
-        out.push_str(" --split")?;
-    }
+    let rewrite = if rewrites { "" } else { " --rewrite" };
+    let split = if splits { "" } else { " --split" };
+    write!(out, "circ: is it found so? circ{rewrite}{split}")?;
+    push_words(out, asked)
+}
+
+/// Appends the words as they are, and ends the line.
+fn push_words(out: &mut String, asked: Asked<'_>) -> Result<(), AllocError> {
     asked.push_all(out)?;
     out.push('\n')
 }
@@ -110,10 +143,13 @@ fn push_with_flags(out: &mut String, asked: Asked<'_>) -> Result<(), AllocError>
 /// The call that shows the step that is refused.
 pub fn explain_call(alloc: Global, asked: Asked<'_>) -> Result<String, AllocError> {
     let mut out = String::new(alloc);
+    let done = push_explain(&mut out, asked);
+    written(out, done)
+}
+
+fn push_explain(out: &mut String, asked: Asked<'_>) -> Result<(), AllocError> {
     out.push_str("circ: what stands there: tools/explain")?;
-    asked.push_all(&mut out)?;
-    out.push('\n')?;
-    Ok(out)
+    push_words(out, asked)
 }
 
 /// The place in the script of the goal that is stuck, by the number of its block and how many goals
@@ -126,36 +162,46 @@ pub fn stuck_goal(
     goal: u64,
 ) -> Result<String, AllocError> {
     let mut out = String::new(alloc);
-    push_goal(alloc, &mut out, name, script, u64::from(block), goal)?;
-    Ok(out)
+    let done = match Tokens::of(alloc, script) {
+        Ok(tokens) => push_goal(&mut out, name, &tokens, script, u64::from(block), goal),
+        Err(_) => Ok(()),
+    };
+    written(out, done)
 }
 
-/// Appends the place of the goal in the script, or else that of its block's first goal, if the
-/// script's bytes are cut into tokens.
+/// Appends the place of the goal in the script, or else that of its block's first goal.
 fn push_goal(
-    alloc: Global,
     out: &mut String,
     name: &str,
+    tokens: &Tokens<'_>,
     script: &[u8],
     block: u64,
     goal: u64,
 ) -> Result<(), AllocError> {
-    let Ok(tokens) = Tokens::of(alloc, script) else {
-        return Ok(());
-    };
-    if let Some(place) = place_of(&tokens, block, goal) {
-        push_position(out, name, script, place.at)?;
-        writeln!(out, "stuck: goal {goal} of block {block}")?;
-        return push_picture(out, script, place);
+    if let Some(place) = place_of(tokens, block, goal) {
+        return push_stuck(out, name, script, place, block, goal, "");
     }
-    let Some(place) = place_of(&tokens, block, 1) else {
-        return Ok(());
-    };
+    match place_of(tokens, block, 1) {
+        Some(place) => push_stuck(out, name, script, place, block, goal, MADE),
+        None => Ok(()),
+    }
+}
+
+/// What is said of a goal that does not stand in the script.
+const MADE: &str = " is none of the script's: `derive` made it of those from here on";
+
+/// Appends what is said of the goal at a place.
+fn push_stuck(
+    out: &mut String,
+    name: &str,
+    script: &[u8],
+    place: Place,
+    block: u64,
+    goal: u64,
+    says: &str,
+) -> Result<(), AllocError> {
     push_position(out, name, script, place.at)?;
-    writeln!(
-        out,
-        "stuck: goal {goal} of block {block} is none of the script's: `derive` made it of those from here on"
-    )?;
+    writeln!(out, "stuck: goal {goal} of block {block}{says}")?;
     push_picture(out, script, place)
 }
 

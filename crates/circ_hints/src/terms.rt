@@ -1,10 +1,10 @@
 //! Which token of a term that does not read is the likely cause.
 use crate::conditions::has_conditions;
 use crate::drawing::rest_from;
-use crate::known::{Known, Wanted};
+use crate::known::Known;
 use crate::marks::Mark;
 use crate::openings::{begins_statement, begins_work, says_of_conditions};
-use crate::parts::{Part, is, is_same, next};
+use crate::parts::{Part, is, is_either, is_same, next};
 use crate::prefixes::unread_behind;
 use crate::unreadable_hint::Source;
 use circ_lexer::Tokens;
@@ -14,59 +14,33 @@ use std::alloc::{AllocError, Global};
 pub(crate) const NO_TERM: &str =
     "each word is declared, but this spells no term: see sorts, parentheses and blanks";
 
-/// The names that the terms of a part may have.
-#[derive(Drop)]
-struct Names<'a> {
-    words: Known<'a>,
-    sorts: Known<'a>,
-    /// Whether the part is an equation or a goal with conditions.
-    has_conditions: bool,
-}
-
-/// The mark of a statement or an item with a term that has no reading: a word that nothing
-/// declares, or else a parenthesis without its other one, or else what stands behind the longest
-/// part that reads, or else the whole.
-pub(crate) fn unread_word<'a>(
-    alloc: Global,
-    source: &Source<'a>,
-    tokens: &Tokens<'a>,
-    part: Part,
-) -> Result<Mark, AllocError> {
+/// The mark of the first word of a statement or an item with a term that has no reading which
+/// nothing declares, or else of a parenthesis without its other one, where there is one.
+pub(crate) fn unread_word(tokens: &Tokens<'_>, part: Part, known: &Known<'_>) -> Option<Mark> {
     let from = terms_begin(tokens, part);
-    match seen_mark(alloc, source, tokens, part, from)? {
-        Some(mark) => Ok(mark),
-        None => unread_part(alloc, source, tokens, part, from),
+    match undeclared(tokens, part, from, known) {
+        Some(number) => Some(Mark::naming(number, says_of_word(tokens, part, number, known))),
+        None => unbalanced(tokens, from, part.to),
     }
 }
 
-/// The mark of a word that nothing before the part declares, or else of a parenthesis without its
-/// other one.
-fn seen_mark<'a>(
-    alloc: Global,
-    source: &Source<'a>,
-    tokens: &Tokens<'a>,
-    part: Part,
-    from: usize,
-) -> Result<Option<Mark>, AllocError> {
-    let names = Names::before(alloc, source, tokens, part)?;
-    let mark = names.seen_mark(tokens, part, from);
-    drop(names);
-    Ok(mark)
-}
-
-/// The mark behind the longest part that reads, or of the whole.
-fn unread_part(
+/// The mark of a statement or an item with a term that has no reading, each word of which is
+/// declared: behind the longest part that reads, or of the whole.
+pub(crate) fn unread_part(
     alloc: Global,
     source: &Source<'_>,
     tokens: &Tokens<'_>,
     part: Part,
-    from: usize,
 ) -> Result<Mark, AllocError> {
+    let from = terms_begin(tokens, part);
+    let whole = Mark::at(from, NO_TERM);
     if is(tokens, part.from, b"cases") {
-        return Ok(Mark::at(from, NO_TERM));
+        return Ok(whole);
     }
-    let read = unread_behind(alloc, source, tokens, part, from)?;
-    Ok(read.unwrap_or(Mark::at(from, NO_TERM)))
+    match unread_behind(alloc, source, tokens, part, from) {
+        Ok(read) => Ok(read.unwrap_or(whole)),
+        Err(fault) => Err(fault),
+    }
 }
 
 /// Where the terms of a statement or an item begin.
@@ -80,52 +54,24 @@ fn terms_begin(tokens: &Tokens<'_>, part: Part) -> usize {
     part.nth(1)
 }
 
-impl<'a> Names<'a> {
-    /// The names that are declared before a part.
-    fn before(
-        alloc: Global,
-        source: &Source<'a>,
-        tokens: &Tokens<'a>,
-        part: Part,
-    ) -> Result<Names<'a>, AllocError> {
-        let words = Known::before(alloc, Wanted::Words, source, tokens, part.from)?;
-        let sorts = Known::before(alloc, Wanted::Sorts, source, tokens, part.from)?;
-        Ok(Names {
-            words,
-            sorts,
-            has_conditions: has_conditions(tokens, part),
-        })
-    }
-
-    /// The mark of a word that nothing declares, or else of a parenthesis without its other one.
-    fn seen_mark(&self, tokens: &Tokens<'_>, part: Part, from: usize) -> Option<Mark> {
-        match self.undeclared(tokens, from, part.to) {
-            Some(number) => {
-                let says = says_of_word(tokens, part, number, self);
-                Some(Mark::naming(number, says))
-            }
-            None => unbalanced(tokens, from, part.to),
+/// The first token of a part from one on that no declaration has.
+fn undeclared(tokens: &Tokens<'_>, part: Part, from: usize, known: &Known<'_>) -> Option<usize> {
+    let conditional = has_conditions(tokens, part);
+    for number in from..part.to {
+        match tokens.token(number) {
+            Some(word) if may_stand(word, known, conditional) => {}
+            _ => return Some(number),
         }
     }
+    None
+}
 
-    /// The first token of a range that no declaration has.
-    fn undeclared(&self, tokens: &Tokens<'_>, from: usize, to: usize) -> Option<usize> {
-        for number in from..to {
-            match tokens.token(number) {
-                Some(word) if self.has(word) => {}
-                _ => return Some(number),
-            }
-        }
-        None
-    }
-
-    /// Whether a token may stand in a term, or between terms.
-    fn has(&self, word: &[u8]) -> bool {
-        self.words.has(word)
-            || is_of_any_term(word)
-            || (self.has_conditions && is_of_conditions(word))
-            || self.sorts.has(behind_colon(word))
-    }
+/// Whether a token may stand in a term, or between terms.
+fn may_stand(word: &[u8], known: &Known<'_>, conditional: bool) -> bool {
+    known.has_word(word)
+        || is_of_any_term(word)
+        || (conditional && is_of_conditions(word))
+        || known.has_sort(behind_colon(word))
 }
 
 /// Whether a token may stand in a term, or between terms, without a declaration.
@@ -147,8 +93,8 @@ fn is_one_of(word: &[u8], signs: &[u8]) -> bool {
 
 /// What stands behind the first colon of a word: the sort of a variable that is written with it.
 fn behind_colon(word: &[u8]) -> &[u8] {
-    for (n, byte) in word.iter().enumerate() {
-        if *byte == b':' {
+    for n in 0..word.len() {
+        if word[n] == b':' {
             return rest_from(word, next(n));
         }
     }
@@ -156,22 +102,28 @@ fn behind_colon(word: &[u8]) -> &[u8] {
 }
 
 /// What is said of a word that no declaration has.
-fn says_of_word(tokens: &Tokens<'_>, part: Part, number: usize, names: &Names<'_>) -> &'static str {
+fn says_of_word(tokens: &Tokens<'_>, part: Part, number: usize, known: &Known<'_>) -> &'static str {
     if begins_statement(tokens, number) || begins_work(tokens, number) {
         return "is a ` .` missing before?";
     }
-    if let Some(says) = says_of_mark(tokens, part, number, names) {
+    if let Some(says) = says_of_mark(tokens, part, number, known) {
         return says;
     }
-    if let Some(word) = tokens.token(number) {
-        if !behind_colon(word).is_empty() {
-            return "no sort of this name is declared";
-        }
-        if is_same(word, b"if") {
-            return says_of_conditions(tokens, part, number).unwrap_or(UNDECLARED);
-        }
+    if has_sort(tokens, number) {
+        return "no sort of this name is declared";
+    }
+    if is(tokens, number, b"if") {
+        return says_of_conditions(tokens, part, number).unwrap_or(UNDECLARED);
     }
     UNDECLARED
+}
+
+/// Whether a token is a variable that is written with its sort.
+fn has_sort(tokens: &Tokens<'_>, number: usize) -> bool {
+    match tokens.token(number) {
+        Some(word) => !behind_colon(word).is_empty(),
+        None => false,
+    }
 }
 
 /// What is said of a word that nothing declares.
@@ -184,10 +136,10 @@ fn says_of_mark(
     tokens: &Tokens<'_>,
     part: Part,
     number: usize,
-    names: &Names<'_>,
+    known: &Known<'_>,
 ) -> Option<&'static str> {
-    let is_equation = is(tokens, part.from, b"eq") || is(tokens, part.from, b"ceq");
-    if !is_equation || names.words.has(b"[") {
+    let is_equation = is_either(tokens, part.from, b"eq", b"ceq");
+    if !is_equation || known.has_word(b"[") {
         return None;
     }
     if is(tokens, part.nth(1), b"[") && number == part.nth(2) {

@@ -3,19 +3,19 @@ use crate::automata::automaton_shape;
 use crate::causes::{name_of, says_of};
 use crate::conditions::hidden_condition;
 use crate::drawing::{Place, bytes_at, push_picture, push_position};
-use crate::known::{Known, Wanted};
+use crate::known::Known;
 use crate::left_out::left_out;
 use crate::marks::Mark;
-use crate::parts::{Part, first, is, item_at, next, statement_at};
+use crate::parts::{Part, first, is, is_either, item_at, next, statement_at};
 use crate::proof_lines::{line_at, says_of_line, word_at_line};
 use crate::scripts::item_shape;
 use crate::shapes::statement_shape;
-use crate::terms::unread_word;
-use crate::texts::push_line;
+use crate::terms::{unread_part, unread_word};
+use crate::texts::{text_of, written};
 use circ_lexer::Tokens;
 use circ_read::Cause;
 use std::alloc::{AllocError, Global};
-use std::str;
+use std::fmt::Write;
 
 /// As many names of a statement as are looked up.
 const MOST_NAMES: usize = 100;
@@ -83,8 +83,8 @@ pub fn unreadable(
 ) -> Result<String, AllocError> {
     let finding = find(alloc, source, number, cause)?;
     let mut out = String::new(alloc);
-    push_finding(&mut out, source, name_of(cause), finding)?;
-    Ok(out)
+    let done = push_finding(&mut out, source, name_of(cause), finding);
+    written(out, done)
 }
 
 fn push_finding(
@@ -96,22 +96,20 @@ fn push_finding(
     push_position(out, source.name, source.bytes, finding.place.at)?;
     out.push_str(cause)?;
     if finding.names {
-        push_name(out, bytes_at(source.bytes, finding.place))?;
+        push_name(out, text_of(bytes_at(source.bytes, finding.place)))?;
     }
-    out.push_str(": ")?;
-    push_line(
-        out,
-        str::from_utf8(finding.subject).unwrap_or(""),
-        finding.says,
-    )?;
+    push_says(out, text_of(finding.subject), finding.says)?;
     push_picture(out, source.bytes, finding.place)
 }
 
 /// Appends a name between marks.
-fn push_name(out: &mut String, name: &[u8]) -> Result<(), AllocError> {
-    out.push_str(" `")?;
-    out.push_str(str::from_utf8(name).unwrap_or(""))?;
-    out.push('`')
+fn push_name(out: &mut String, name: &str) -> Result<(), AllocError> {
+    write!(out, " `{name}`")
+}
+
+/// Appends what is said of a place, and ends the line.
+fn push_says(out: &mut String, subject: &str, says: &str) -> Result<(), AllocError> {
+    writeln!(out, ": {subject}{says}")
 }
 
 fn find<'a>(
@@ -179,26 +177,25 @@ fn hidden_sort<'a>(
 ) -> Result<Finding<'a>, AllocError> {
     let part = part_of(source, tokens, number);
     let subject = name_of_sort(alloc, source, tokens, part, sort)?;
-    let (place, says) = if is(tokens, part.from, b"cases") {
+    let mut finding = if is(tokens, part.from, b"cases") {
         let mark = Mark::at(part.nth(1), " is hidden; a case list is of a visible sort");
-        (mark.place(tokens, source.bytes.len()), mark.says)
+        Finding::at(mark.place(tokens, source.bytes.len()), mark.says)
     } else {
         let condition = hidden_condition(alloc, source, tokens, part)?;
-        let nowhere = Place {
-            at: source.bytes.len(),
-            width: 1,
-        };
-        (
-            condition.place(tokens).unwrap_or(nowhere),
-            " is hidden; a condition is of a visible sort",
-        )
+        condition_finding(source, tokens, condition)
     };
-    Ok(Finding {
-        place,
-        names: false,
-        subject,
-        says,
-    })
+    finding.subject = subject;
+    Ok(finding)
+}
+
+/// What is found of a condition of a hidden sort.
+fn condition_finding<'a>(source: &Source<'a>, tokens: &Tokens<'a>, condition: Part) -> Finding<'a> {
+    let nowhere = Place {
+        at: source.bytes.len(),
+        width: 1,
+    };
+    let place = condition.place(tokens).unwrap_or(nowhere);
+    Finding::at(place, " is hidden; a condition is of a visible sort")
 }
 
 /// The name of a sort of this number that is declared before a part.
@@ -209,8 +206,10 @@ fn name_of_sort<'a>(
     part: Part,
     sort: u32,
 ) -> Result<&'a [u8], AllocError> {
-    let sorts = Known::before(alloc, Wanted::Sorts, source, tokens, part.from)?;
-    Ok(sorts.name(sort).unwrap_or(b"this sort"))
+    let known = Known::before(alloc, source, tokens, part.from)?;
+    let name = known.sort(sort);
+    drop(known);
+    Ok(name.unwrap_or(b"this sort"))
 }
 
 /// The part of a number.
@@ -230,18 +229,33 @@ fn mark_of<'a>(
     cause: &Cause,
 ) -> Result<Mark, AllocError> {
     let part = part_of(source, tokens, number);
+    if !is_of_names(cause) {
+        return Ok(by_form(source, tokens, part, number, cause));
+    }
+    let known = Known::before(alloc, source, tokens, part.from)?;
+    let mark = by_names(tokens, part, &known, cause);
+    drop(known);
+    match mark {
+        Some(mark) => Ok(mark),
+        None => unread_part(alloc, source, tokens, part),
+    }
+}
+
+/// Whether what is declared before a statement tells its mark.
+fn is_of_names(cause: &Cause) -> bool {
     match cause {
-        Cause::UnknownSort => {
-            let known = Known::before(alloc, Wanted::Sorts, source, tokens, part.from)?;
-            Ok(unknown_sort(tokens, part, &known))
-        }
-        Cause::NoParse => unread_word(alloc, source, tokens, part),
-        Cause::Twice { .. } => {
-            let wanted = wanted_twice(tokens, part);
-            let known = Known::before(alloc, wanted, source, tokens, part.from)?;
-            Ok(declared_twice(tokens, part, &known))
-        }
-        _ => Ok(by_form(source, tokens, part, number, cause)),
+        Cause::UnknownSort | Cause::NoParse | Cause::Twice { .. } => true,
+        _ => false,
+    }
+}
+
+/// The mark of such a cause, by what is declared before the statement. None for a term of which
+/// each word is declared.
+fn by_names(tokens: &Tokens<'_>, part: Part, known: &Known<'_>, cause: &Cause) -> Option<Mark> {
+    match cause {
+        Cause::UnknownSort => Some(unknown_sort(tokens, part, known)),
+        Cause::NoParse => unread_word(tokens, part, known),
+        _ => Some(declared_twice(tokens, part, known)),
     }
 }
 
@@ -275,15 +289,6 @@ fn shape(source: &Source<'_>, tokens: &Tokens<'_>, part: Part, number: u64) -> M
     }
 }
 
-/// What names a statement declares.
-fn wanted_twice(tokens: &Tokens<'_>, part: Part) -> Wanted {
-    if is(tokens, part.from, b"sort") || is(tokens, part.from, b"sorts") {
-        Wanted::Sorts
-    } else {
-        Wanted::Words
-    }
-}
-
 /// The first name of a statement that should be a sort and is none.
 fn unknown_sort(tokens: &Tokens<'_>, part: Part, known: &Known<'_>) -> Mark {
     let says = "no sort of this name is declared before";
@@ -293,7 +298,7 @@ fn unknown_sort(tokens: &Tokens<'_>, part: Part, known: &Known<'_>) -> Mark {
     };
     for number in from..part.to {
         match tokens.token(number) {
-            Some(name) if known.has(name) || is(tokens, number, b"->") => {}
+            Some(name) if known.has_sort(name) || is(tokens, number, b"->") => {}
             _ => return Mark::naming(number, says),
         }
     }
@@ -308,10 +313,21 @@ fn declared_twice(tokens: &Tokens<'_>, part: Part, known: &Known<'_>) -> Mark {
     let colon = first(tokens, begin, part.to, b":").unwrap_or(part.to);
     for number in begin..colon.min(part.nth(MOST_NAMES)) {
         if let Some(name) = tokens.token(number) {
-            if known.has(name) || first(tokens, begin, number, name).is_some() {
+            if is_declared(tokens, part, known, name)
+                || first(tokens, begin, number, name).is_some()
+            {
                 return Mark::naming(number, says);
             }
         }
     }
     Mark::naming(begin, says)
+}
+
+/// Whether a name that a statement declares is declared before it.
+fn is_declared(tokens: &Tokens<'_>, part: Part, known: &Known<'_>, name: &[u8]) -> bool {
+    if is_either(tokens, part.from, b"sort", b"sorts") {
+        known.has_sort(name)
+    } else {
+        known.has_word(name)
+    }
 }

@@ -1,29 +1,40 @@
 //! The hint for words that are no command.
 use crate::commands::{COMMANDS, CommandWords, command_named};
 use crate::run_words::Asked;
-use crate::texts::push_line;
+use crate::texts::{push_line, written};
 use std::alloc::{AllocError, Global};
+use std::fmt::Write;
 
 /// The hint for words that are no command, of which the first is the program's name: which word is
 /// at fault, and the table of commands.
 pub fn usage(alloc: Global, words: &[String]) -> Result<String, AllocError> {
     let mut out = String::new(alloc);
-    push_usage(&mut out, words)?;
-    Ok(out)
+    let done = push_usage(&mut out, words);
+    written(out, done)
 }
 
 fn push_usage(out: &mut String, words: &[String]) -> Result<(), AllocError> {
     if !asks_for_help(words) {
         push_fault(out, Asked::new(words))?;
     }
-    for command in COMMANDS {
-        push_words(out, "  circ ", command.name, " ", command.takes)?;
+    push_table(out)?;
+    out.push_str(OPTIONS)
+}
+
+/// The lines of the options.
+const OPTIONS: &str =
+    "  --steps N (0 to 1000000) and --derives N (0 to 10000) bound what a command does
+  --split has prove and regex split hidden goals into cases
+  --rewrite has them rewrite hidden goals by what was derived before
+";
+
+/// Appends a line for each command.
+fn push_table(out: &mut String) -> Result<(), AllocError> {
+    for n in 0..COMMANDS.len() {
+        let CommandWords { name, takes } = COMMANDS[n];
+        writeln!(out, "  circ {name} {takes}")?;
     }
-    out.push_str(
-        "  --steps N (0 to 1000000) and --derives N (0 to 10000) bound what a command does\n",
-    )?;
-    out.push_str("  --split has prove and regex split hidden goals into cases\n")?;
-    out.push_str("  --rewrite has them rewrite hidden goals by what was derived before\n")
+    Ok(())
 }
 
 /// Whether the words ask for the table.
@@ -41,29 +52,14 @@ fn push_fault(out: &mut String, asked: Asked<'_>) -> Result<(), AllocError> {
     }
     let name = asked.command();
     match command_named(name) {
-        Some(command) => push_words(
-            out,
-            "circ: ",
-            command.name,
-            " needs ",
-            needs(asked, command),
-        ),
+        Some(command) => push_needs(out, name, needs(asked, command)),
         None if name.is_empty() => out.push_str("circ: a command is missing\n"),
         None => push_line(out, "circ: there is no command ", name),
     }
 }
 
-/// Appends a line of a command and what it takes.
-fn push_words(
-    out: &mut String,
-    before: &str,
-    name: &str,
-    between: &str,
-    takes: &str,
-) -> Result<(), AllocError> {
-    out.push_str(before)?;
-    out.push_str(name)?;
-    push_line(out, between, takes)
+fn push_needs(out: &mut String, name: &str, needs: &str) -> Result<(), AllocError> {
+    writeln!(out, "circ: {name} needs {needs}")
 }
 
 /// What a command takes that the words do not have.
