@@ -7,6 +7,7 @@ pub mod Entering
 pub mod Counted
 pub mod Next
 pub mod Taking
+pub mod ReadingLinks
 pub mod Standing
 pub mod Cutting
 pub mod Handing

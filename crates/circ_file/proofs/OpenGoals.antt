@@ -15,7 +15,7 @@ use Rattle.circ_line.specs.Line.{given_line}
 use Rattle.circ_grammar.specs.Machine.{add_given, with_given}
 use Rattle.circ_grammar.specs.Now.{Opened, next_given}
 use Rattle.circ_file.specs.Givens.{with_pair, add_pair, Gives}
-use Rattle.circ_file.specs.View.{now_at, now_of, queue_of, IsMachineOf, IsMachineAt, Moves, MachineTakes}
+use Rattle.circ_file.specs.View.{now_at, now_of, queue_of, IsMachineOf, IsMachineAt, Moves}
 use Rattle.circ_file.specs.declared.machine.Mode.{Mode}
 use Rattle.circ_file.specs.declared.machine.Mode.TheVariants as mode
 use Rattle.circ_file.specs.declared.machine.Machine.{Machine}

@@ -1,6 +1,6 @@
 -- What a line gives that passes the checks and the limits.
 use Rattle.std.specs.Prelude.{◌≡◌, ℕ, ◌+◌, ◌-◌, ◌<◌, ◌==◌, if◌then◌else◌, ◌≤◌, ◌||◌, nat_eq, Bool, true, false, cond, List, [], ◌∷◌, ◌++◌, length, refl, zero, suc, Some, None, is_some}
-use Rattle.std.proofs.Common.{sym, ◌∙◌, ap, subst, arith, inr}
+use Rattle.std.proofs.Common.{sym, ◌∙◌, ap, subst, arith, inl, inr}
 use Rattle.std.proofs.lemmas.Bool.{and_parts, and_from, lt-ltb, le-ltb, ltb-true, ltb-false}
 use Rattle.std.proofs.lemmas.Option.{same_Some, none-some, cond_some}
 use Rattle.circ_term.specs.Tree.{Tree}
@@ -33,7 +33,7 @@ use Rattle.circ_line.specs.declared.line.Line.{Line as CodeLine}
 use Rattle.circ_line.specs.declared.line.Line.TheVariants as line
 use Rattle.circ_file.specs.View.{places_with, IsUsable, IsFree, IsMachineAt, IsMachineOf, now_at, now_of, MachineTakes, Moves}
 use Rattle.circ_file.specs.Counting.{certificates_with, steps_with, version_with, givens_with, ifs_with, CountsGiven}
-use Rattle.circ_file.specs.Lines.{IsInStep, IsOther, IsReader, seen_of, Advances, Handles}
+use Rattle.circ_file.specs.Lines.{IsInStep, IsOther, IsReader, seen_of, Advances, Handles, taken_where}
 use Rattle.circ_theory.specs.Pair.{Pair}
 use Rattle.circ_proof.specs.Proof.{pair_at}
 use Rattle.circ_file.specs.Adding.{condition_for, terms_in, is_open, AddsLine}
@@ -47,7 +47,7 @@ use Rattle.circ_file.specs.declared.machine.Mode.TheVariants as mode
 use Rattle.circ_file.proofs.Counted.{due_more}
 
 -- The numbers of a line that passes are ready to be used.
-bare_in_range : (l : LinkOf ℕ) → IsLinkInRange l → is_bare l ≡ true
+pub bare_in_range : (l : LinkOf ℕ) → IsLinkInRange l → is_bare l ≡ true
 bare_in_range (Equation_link n w p ts cs) r = ap is_no_chain r.2
 bare_in_range (Hypothesis_link n w p ts cs) r = ap is_no_chain r.2
 bare_in_range (Assumption_link n w p) r = refl
@@ -355,6 +355,15 @@ other_handled w r s l k o t p q (m, e, b) due_is counts_are =
         ifs = omega (arith, ifs_then th (seen_of w r) l k.ifs q, ap (λ x. x.ifs) counts_are);
       };
     }
+
+-- A link is taken, and the counts stay.
+module _ (w : List ℕ) (r s : LineReader) (l : Line) (k : IsReader r) (o : IsOther l) (t : s.theory.now ≡ r.theory.now)
+    (p : passes_at r.theory.now (seen_of w r) l ≡ true) (due_is : s.counts.due ≡ length (due r.theory.now (places_with r.machine.places.items l)))
+    (counts_are : counted_in (seen_of w s) ≡ counted_with (counted_in (seen_of w r)) l) where
+  pub link_handled : (b v : Bool) → limit_at r.theory.now (seen_of w r) l ≡ v → Advances b r l s → Handles (taken_where b v) w r l s
+  link_handled false v q a = inl a
+  link_handled true false q a = other_handled w r s l k o t p q a due_is counts_are
+  link_handled true true q a = (now_of s.machine, a.0.next, p, q)
 
 -- A condition of a goal.
 

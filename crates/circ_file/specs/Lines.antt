@@ -81,3 +81,9 @@ ReadsNext taken.Line wanted r bytes s =
     ((l : Line) → IsInRange l → bytes ≡ line_text l → ⊥)
     ⊎ ((l : Line) × (bytes ≡ line_text l) × IsInRange l × Handles taken.Line wanted r l s)
 ReadsNext t wanted r bytes s = (l : Line) × (bytes ≡ line_text l) × IsInRange l × Handles t wanted r l s
+
+-- what becomes of a line that passes the checks, by whether it may come next, and passes a limit
+abbrev pub taken_where : (is_next is_over : Bool) → Taken
+taken_where false is_over = taken.Line
+taken_where true false = taken.Yes
+taken_where true true = taken.Limit

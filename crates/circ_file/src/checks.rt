@@ -1,11 +1,12 @@
 //! What is checked of a line by itself and by the table before it.
-ghost use Rattle.std.specs.Prelude.{◌≡◌, nat_lt};
+ghost use Rattle.std.specs.Prelude.{◌≡◌, nat_lt, length};
 ghost use Rattle.std.specs.List.{list_all};
 ghost use Rattle.circ_special.specs.Special.{place, comes_before};
 ghost use Rattle.circ_proof.specs.Plain.{plain_link};
 ghost use Rattle.circ_proof_text.specs.Checks.{is_next, is_place, is_goal, is_condition};
-ghost use Rattle.circ_proof_text.specs.Checks.{is_in_table, path_of};
+ghost use Rattle.circ_proof_text.specs.Checks.{is_in_table, path_of, path_limit};
 
+use crate::MOST_ENTRIES;
 use circ_proof::Link;
 use circ_special::Place;
 use circ_table::Table;
@@ -90,8 +91,8 @@ fn are_below(count: usize, numbers: &[u32]) -> bool
     true
 }
 
-/// Where the link applies.
-pub(crate) fn path_of(link: &Link) -> &Path
+// Where the link applies.
+fn path_of(link: &Link) -> &Path
     ensures { result.now.items ≡ path_of (plain_link link.now) }
 {
     match link {
@@ -100,4 +101,11 @@ pub(crate) fn path_of(link: &Link) -> &Path
         Link::Assumption { path, .. } => path,
         Link::Content { path, .. } => path,
     }
+}
+
+/// Whether the path of the link has more entries than there may be.
+pub(crate) fn is_long(link: &Link) -> bool
+    ensures { result ≡ nat_lt path_limit (length (path_of (plain_link link.now))) }
+{
+    path_of(link).len() > MOST_ENTRIES
 }

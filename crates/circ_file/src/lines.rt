@@ -1,24 +1,29 @@
 //! Whole lines, read one after the other.
-ghost use Rattle.std.specs.Prelude.{◌≡◌, ◌==◌, ◌&&◌, List, ℕ, true, length, IfOk, []};
+ghost use Rattle.std.specs.Prelude.{◌≡◌, ◌==◌, ◌&&◌, List, ℕ, true, length, IfOk, [], codes};
+ghost use Rattle.std.specs.Prelude.{Some, None};
+ghost use Rattle.circ_line.specs.Front.{rest_after};
 ghost use Rattle.circ_line.specs.Line.{table_line, goal_line, given_line};
-ghost use Rattle.circ_line.specs.Line.{certificate_line, block_line};
+ghost use Rattle.circ_line.specs.Line.{certificate_line, block_line, left_line, right_line};
 ghost use Rattle.circ_line.specs.Text.{IsInRange};
 ghost use Rattle.circ_line.specs.Plain.{plain_line, plain_table_line};
 ghost use Rattle.circ_grammar.specs.Now.{Begin};
+ghost use Rattle.circ_grammar.specs.Grammar.{is_bare};
+ghost use Rattle.circ_proof.specs.Plain.{plain_link};
 ghost use Rattle.circ_special.specs.Special.{place};
 ghost use Rattle.circ_proof_text.specs.Checks.{nothing, passes_at, limit_at, is_next};
 ghost use Rattle.circ_proof_text.specs.Checks.{is_place};
 ghost use Rattle.circ_file.specs.View.{now_of, queue_of, splits_in, IsUsable};
 ghost use Rattle.circ_file.specs.Lines.{IsReader, IsOther, seen_of, Advances, Handles};
-ghost use Rattle.circ_file.specs.Lines.{ReadsNext};
+ghost use Rattle.circ_file.specs.Lines.{ReadsNext, taken_where};
 
-use crate::checks::{is_in_table, is_next, is_place, path_of};
+use crate::checks::{is_in_table, is_long, is_next, is_place};
 use crate::counts::Counts;
 use crate::machine::Machine;
 use crate::table::ReadTable;
 use crate::taken::Taken;
-use crate::{MOST_CONDITIONS, MOST_ENTRIES, MOST_PROOF_STEPS, MOST_SPLITS};
-use circ_line::{Line, TableLine, read_line};
+use crate::{MOST_CONDITIONS, MOST_PROOF_STEPS, MOST_SPLITS};
+use circ_line::{Line, TableLine, after_left, after_right, read_line, read_link};
+use circ_proof::Link;
 use circ_theory::Theory;
 use std::alloc::{AllocError, Global};
 
@@ -59,6 +64,56 @@ impl<'a> LineReader<'a> {
             length wanted ≡ splits_in (now_of self.old.machine) →
             ReadsNext taken wanted self.old bytes.now self.new) }
     {
+        if let Some(rest) = after_left(bytes) {
+            return self.read_left(rest);
+        }
+        if let Some(rest) = after_right(bytes) {
+            return self.read_right(rest);
+        }
+        self.read_other(bytes)
+    }
+
+    // A line of which these are the bytes after the left side.
+    fn read_left(&mut self, rest: &[u8]) -> Result<Taken, AllocError>
+        requires { IsReader self.old }
+        ensures theory { self.new.theory.now ≡ self.old.theory.now }
+        ensures read { IfOk result (λ taken. (bytes wanted : List ℕ) →
+            Some rest.now ≡ rest_after (codes "left ") bytes →
+            ReadsNext taken wanted self.old bytes self.new) }
+    {
+        let read = read_link(self.alloc, rest)?;
+        match read {
+            Some(link) => self.take_left(link),
+            None => Ok(Taken::Line),
+        }
+    }
+
+    // The same of the right side.
+    fn read_right(&mut self, rest: &[u8]) -> Result<Taken, AllocError>
+        requires { IsReader self.old }
+        ensures theory { self.new.theory.now ≡ self.old.theory.now }
+        ensures read { IfOk result (λ taken. (bytes wanted : List ℕ) →
+            None ≡ rest_after (codes "left ") bytes →
+            Some rest.now ≡ rest_after (codes "right ") bytes →
+            ReadsNext taken wanted self.old bytes self.new) }
+    {
+        let read = read_link(self.alloc, rest)?;
+        match read {
+            Some(link) => self.take_right(link),
+            None => Ok(Taken::Line),
+        }
+    }
+
+    // The line of which these are the bytes. It stands apart, so that links pay nothing for what it
+    // owns.
+    #[inline(never)]
+    fn read_other(&mut self, bytes: &[u8]) -> Result<Taken, AllocError>
+        requires { IsReader self.old }
+        ensures theory { self.new.theory.now ≡ self.old.theory.now }
+        ensures read { IfOk result (λ taken. (wanted : List ℕ) →
+            length wanted ≡ splits_in (now_of self.old.machine) →
+            ReadsNext taken wanted self.old bytes.now self.new) }
+    {
         match read_line(self.alloc, bytes)? {
             Some(line) => self.take(line),
             None => Ok(Taken::Line),
@@ -74,11 +129,61 @@ impl<'a> LineReader<'a> {
             Handles taken wanted self.old (plain_line line) self.new) }
     {
         match line {
+            Line::Left { link } => self.take_left(link),
+            Line::Right { link } => self.take_right(link),
+            line => self.take_unlinked(line),
+        }
+    }
+
+    // A line that is no link.
+    fn take_unlinked(&mut self, line: Line) -> Result<Taken, AllocError>
+        requires reader { IsReader self.old }
+        requires in_range { IsInRange (plain_line line) }
+        ensures theory { self.new.theory.now ≡ self.old.theory.now }
+        ensures taken { IfOk result (λ taken. (wanted : List ℕ) →
+            length wanted ≡ splits_in (now_of self.old.machine) →
+            Handles taken wanted self.old (plain_line line) self.new) }
+    {
+        match line {
             Line::Table { line } => self.take_table(&line),
             Line::Goal { left, right } => self.take_goal(left, right),
             Line::Given { left, right } => self.take_given(left, right),
             line => self.take_other(line),
         }
+    }
+
+    // A link of the left side. The counts stay as they are.
+    fn take_left(&mut self, link: Link) -> Result<Taken, AllocError>
+        requires reader { IsReader self.old }
+        requires bare { is_bare (plain_link link) ≡ true }
+        ensures theory { self.new.theory.now ≡ self.old.theory.now }
+        ensures taken { IfOk result (λ taken. (wanted : List ℕ) →
+            Handles taken wanted self.old (left_line (plain_link link)) self.new) }
+    {
+        if !is_in_table(self.table.len(), &link) {
+            drop(link);
+            return Ok(Taken::Line);
+        }
+        let is_over = is_long(&link);
+        let is_next = self.machine.on_left(link)?;
+        Ok(taken_where(is_next, is_over))
+    }
+
+    // A link of the right side, likewise.
+    fn take_right(&mut self, link: Link) -> Result<Taken, AllocError>
+        requires reader { IsReader self.old }
+        requires bare { is_bare (plain_link link) ≡ true }
+        ensures theory { self.new.theory.now ≡ self.old.theory.now }
+        ensures taken { IfOk result (λ taken. (wanted : List ℕ) →
+            Handles taken wanted self.old (right_line (plain_link link)) self.new) }
+    {
+        if !is_in_table(self.table.len(), &link) {
+            drop(link);
+            return Ok(Taken::Line);
+        }
+        let is_over = is_long(&link);
+        let is_next = self.machine.on_right(link)?;
+        Ok(taken_where(is_next, is_over))
     }
 
     fn take_table(&mut self, line: &TableLine) -> Result<Taken, AllocError>
@@ -274,9 +379,19 @@ impl<'a> LineReader<'a> {
             }
             Line::If => self.counts.ifs >= MOST_CONDITIONS,
             Line::Split { .. } => self.machine.open_splits() >= MOST_SPLITS,
-            Line::Left { link } => path_of(link).len() > MOST_ENTRIES,
-            Line::Right { link } => path_of(link).len() > MOST_ENTRIES,
+            Line::Left { link } => is_long(link),
+            Line::Right { link } => is_long(link),
             _ => false,
         }
     }
+}
+
+// What becomes of a line that passes the checks, by whether it may come next, and passes a limit.
+fn taken_where(is_next: bool, is_over: bool) -> Taken
+    ensures { result ≡ taken_where is_next is_over }
+{
+    if !is_next {
+        return Taken::Line;
+    }
+    if is_over { Taken::Limit } else { Taken::Yes }
 }

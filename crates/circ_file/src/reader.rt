@@ -215,8 +215,8 @@ impl<'a> FileReader<'a> {
 fn next_line(bytes: &[u8]) -> Option<(&[u8], &[u8])>
     ensures { MatchOption result (NoFeed bytes.now) (λ r. IsCut bytes.now r.0.now r.1.now) }
 {
-    for (i, b) in bytes.iter().enumerate() {
-        if *b == b'\n' {
+    for i in 0..bytes.len() {
+        if bytes[i] == b'\n' {
             return Some((&bytes[..i], &bytes[i + 1..]));
         }
     }

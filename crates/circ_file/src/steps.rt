@@ -124,6 +124,7 @@ impl Machine {
         Ok(true)
     }
 
+    #[inline(always)]
     pub(crate) fn on_left(&mut self, link: Link) -> Result<bool, AllocError>
         requires { is_bare (plain_link link) ≡ true }
         ensures { IfOk result (λ taken. (ts : List Tree) → IsMachineOf ts self.old →
@@ -150,6 +151,7 @@ impl Machine {
         }
     }
 
+    #[inline(always)]
     pub(crate) fn on_right(&mut self, link: Link) -> Result<bool, AllocError>
         requires { is_bare (plain_link link) ≡ true }
         ensures { IfOk result (λ taken. (ts : List Tree) → IsMachineOf ts self.old →
@@ -345,6 +347,7 @@ impl Machine {
 }
 
 // A link of the left side, where the right side has none yet.
+#[inline(always)]
 fn push_left(chain: &mut Chain, link: Link) -> Result<bool, AllocError>
     ensures { IfOk result (λ taken. Gives taken
         (add_left (plain_chain chain.old) (plain_link link)) (plain_chain chain.new)) }

@@ -9,7 +9,9 @@ use Rattle.circ_theory.specs.declared.way.Way.TheVariants.{Forth, Back}
 use Rattle.circ_proof.specs.Plain.{LinkOf, Equation_link, Hypothesis_link, Assumption_link, Content_link}
 use Rattle.circ_line.specs.Line.{Variable_line, Application_line, Line, head_line, table_line, place_line, certificate_line, block_line, goal_line, given_line, simplify_line, reduce_line, derive_line, cases_line, done_line, same_line, split_line, if_line, left_line, right_line, end_line}
 use Rattle.circ_line.specs.Text.{joined, path_word, way_word, link_words, line_words, line_text, AreNumbers, IsPathInRange, IsLinkInRange, IsInRange}
-use Rattle.circ_line.specs.Read.{line_of}
+use Rattle.std.specs.Option.{option_map}
+use Rattle.circ_line.specs.Front.{rest_after, after_or}
+use Rattle.circ_line.specs.Read.{link_of, application_of, short_line, line_of}
 use Rattle.circ_line.specs.Plain.{ReadsLine, OneText, NoFeed, NoFeedWithin}
 use Rattle.circ_line.proofs.LineTexts.{line_gives, line_again}
 
@@ -23,6 +25,26 @@ reads bytes None e = none
   where
     none : (l : Line) → IsInRange l → bytes ≡ line_text l → ⊥
     none l fit same = let found : None ≡ Some l = e ∙ (ap line_of same ∙ line_again l fit) in absurd (cc)
+
+-- what is read of the bytes after a side is the line's link
+abbrev no_link : List ℕ → Option Line
+no_link bytes = after_or (rest_after (codes "a") bytes) application_of (short_line bytes)
+
+abbrev no_left : List ℕ → Option Line
+no_left bytes = after_or (rest_after (codes "right ") bytes) (λ r. option_map right_line (link_of r)) (no_link bytes)
+
+pub reads_left : (bytes rest : List ℕ) (o : Option (LinkOf ℕ)) → Some rest ≡ rest_after (codes "left ") bytes → o ≡ link_of rest
+    → ReadsLine bytes (option_map left_line o)
+reads_left bytes rest o e same =
+    reads bytes (option_map left_line o)
+    (ap (option_map left_line) same ∙ ap (λ x. after_or x (λ r. option_map left_line (link_of r)) (no_left bytes)) e)
+
+pub reads_right : (bytes rest : List ℕ) (o : Option (LinkOf ℕ)) → None ≡ rest_after (codes "left ") bytes → Some rest ≡ rest_after (codes "right ") bytes
+    → o ≡ link_of rest → ReadsLine bytes (option_map right_line o)
+reads_right bytes rest o d e same =
+    reads bytes (option_map right_line o)
+    (ap (option_map right_line) same ∙ ap (λ x. after_or x (λ r. option_map right_line (link_of r)) (no_link bytes)) e
+    ∙ ap (λ x. after_or x (λ r. option_map left_line (link_of r)) (no_left bytes)) d)
 
 feed-append : (a b : List ℕ) → NoFeed a → NoFeed b → NoFeed (a ++ b)
 feed-append [] b h k = k

@@ -1,5 +1,5 @@
 //! The fields of a link at the front of bytes, a space before each.
-ghost use Rattle.std.specs.Prelude.{◌≡◌, IfOk};
+ghost use Rattle.std.specs.Prelude.{◌≡◌, [], IfOk};
 ghost use Rattle.std.specs.Option.{option_map};
 ghost use Rattle.circ_line.specs.Read.{way_at, entries_at, path_at, rule_at};
 
@@ -33,7 +33,8 @@ pub(crate) fn rule_at(alloc: Global, bytes: &[u8]) -> Result<Option<(Rule, &[u8]
     Ok(Some((Rule { way, number, path }, rest)))
 }
 
-fn way_at(bytes: &[u8]) -> Option<(Way, &[u8])>
+/// Which way a rule is used, with the bytes after it.
+pub(crate) fn way_at(bytes: &[u8]) -> Option<(Way, &[u8])>
     ensures { option_map (λ r. (r.0, r.1.now)) result ≡ way_at bytes.now }
 {
     if let Some(rest) = after_text(bytes, b" >") {
@@ -47,26 +48,38 @@ fn way_at(bytes: &[u8]) -> Option<(Way, &[u8])>
 pub(crate) fn path_at(alloc: Global, bytes: &[u8]) -> Result<Option<(Path, &[u8])>, AllocError>
     ensures { IfOk result (λ o. option_map (λ r. (r.0.items, r.1.now)) o ≡ path_at bytes.now) }
 {
-    let Some((first, rest)) = marked(bytes, b' ', ENTRIES) else {
-        let Some(rest) = after_text(bytes, b" -") else {
-            return Ok(None);
-        };
-        return Ok(Some((Path::new(alloc), rest)));
+    let mut path = Path::new(alloc);
+    let Some(rest) = fill_path(&mut path, bytes)? else {
+        return Ok(None);
     };
-    let (path, rest) = entries_at(alloc, first as u16, rest)?;
     Ok(Some((path, rest)))
 }
 
-/// The entries of a path after the first, with it.
-fn entries_at(alloc: Global, first: u16, bytes: &[u8]) -> Result<(Path, &[u8]), AllocError>
-    ensures { IfOk result (λ r. (r.0.items, r.1.now) ≡ entries_at first bytes.now) }
+/// The entries go into a path that has none, so that it is not moved. The bytes after them.
+pub(crate) fn fill_path<'a>(
+    path: &mut Path,
+    bytes: &'a [u8],
+) -> Result<Option<&'a [u8]>, AllocError>
+    requires { path.old.items ≡ [] }
+    ensures { IfOk result (λ o. option_map (λ r. (path.new.items, r.now)) o ≡ path_at bytes.now) }
 {
-    let mut path = Path::new(alloc);
+    let Some((first, rest)) = marked(bytes, b' ', ENTRIES) else {
+        return Ok(after_text(bytes, b" -"));
+    };
+    let rest = fill_entries(path, first as u16, rest)?;
+    Ok(Some(rest))
+}
+
+/// The entries of a path after the first go into it, with the first before them.
+fn fill_entries<'a>(path: &mut Path, first: u16, bytes: &'a [u8]) -> Result<&'a [u8], AllocError>
+    requires { path.old.items ≡ [] }
+    ensures { IfOk result (λ r. (path.new.items, r.now) ≡ entries_at first bytes.now) }
+{
     path.push(first)?;
     let mut rest = bytes;
     while let Some((entry, more)) = marked(rest, b'.', ENTRIES) {
         path.push(entry as u16)?;
         rest = more;
     }
-    Ok((path, rest))
+    Ok(rest)
 }

@@ -5,9 +5,10 @@ ghost use Rattle.circ_proof.specs.Plain.{plain_link};
 ghost use Rattle.circ_line.specs.Read.{link_of, instance_of, assumption_of, content_of};
 ghost use Rattle.circ_line.specs.Read.{to_equation, to_hypothesis};
 
-use crate::fields::{Rule, path_at, rule_at};
+use crate::fields::{Rule, fill_path, path_at, rule_at, way_at};
 use crate::numbers::{after_text, field_at, is_end, number_of, numbers_of};
-use circ_proof::Link;
+use circ_proof::{Link, Way};
+use circ_term::Path;
 use std::alloc::{AllocError, Global};
 
 /// The link that the bytes are the text of, after its side.
@@ -29,25 +30,51 @@ pub(crate) fn link_of(alloc: Global, bytes: &[u8]) -> Result<Option<Link>, Alloc
     }
 }
 
+#[inline(never)]
 fn equation_of(alloc: Global, bytes: &[u8]) -> Result<Option<Link>, AllocError>
     ensures { IfOk result (λ o. option_map plain_link o ≡
         option_map to_equation (instance_of bytes.now)) }
 {
-    Ok(instance_of(alloc, bytes)?.map(|(rule, terms)| equation(alloc, rule, terms)))
+    let Some((way, rest)) = way_at(bytes) else {
+        return Ok(None);
+    };
+    let Some((number, rest)) = field_at(rest) else {
+        return Ok(None);
+    };
+    let mut path = Path::new(alloc);
+    let Some(rest) = fill_path(&mut path, rest)? else {
+        return Ok(None);
+    };
+    let Some(terms) = numbers_of(alloc, rest)? else {
+        return Ok(None);
+    };
+    Ok(Some(equation(alloc, way, number, path, terms)))
 }
 
+#[inline(never)]
 fn hypothesis_of(alloc: Global, bytes: &[u8]) -> Result<Option<Link>, AllocError>
     ensures { IfOk result (λ o. option_map plain_link o ≡
         option_map to_hypothesis (instance_of bytes.now)) }
 {
-    Ok(instance_of(alloc, bytes)?.map(|(rule, terms)| hypothesis(alloc, rule, terms)))
+    let Some((way, rest)) = way_at(bytes) else {
+        return Ok(None);
+    };
+    let Some((number, rest)) = field_at(rest) else {
+        return Ok(None);
+    };
+    let mut path = Path::new(alloc);
+    let Some(rest) = fill_path(&mut path, rest)? else {
+        return Ok(None);
+    };
+    let Some(terms) = numbers_of(alloc, rest)? else {
+        return Ok(None);
+    };
+    Ok(Some(hypothesis(alloc, way, number, path, terms)))
 }
 
-fn equation(alloc: Global, rule: Rule, terms: Vec<u32>) -> Link
-    ensures { plain_link result ≡
-        to_equation ((rule.way, (rule.number, rule.path.items)), terms.items) }
+fn equation(alloc: Global, way: Way, number: u32, path: Path, terms: Vec<u32>) -> Link
+    ensures { plain_link result ≡ to_equation ((way, (number, path.items)), terms.items) }
 {
-    let Rule { way, number, path } = rule;
     let conds = Vec::new(alloc);
     Link::Equation {
         number,
@@ -58,11 +85,9 @@ fn equation(alloc: Global, rule: Rule, terms: Vec<u32>) -> Link
     }
 }
 
-fn hypothesis(alloc: Global, rule: Rule, terms: Vec<u32>) -> Link
-    ensures { plain_link result ≡
-        to_hypothesis ((rule.way, (rule.number, rule.path.items)), terms.items) }
+fn hypothesis(alloc: Global, way: Way, number: u32, path: Path, terms: Vec<u32>) -> Link
+    ensures { plain_link result ≡ to_hypothesis ((way, (number, path.items)), terms.items) }
 {
-    let Rule { way, number, path } = rule;
     let conds = Vec::new(alloc);
     Link::Hypothesis {
         number,
@@ -73,20 +98,7 @@ fn hypothesis(alloc: Global, rule: Rule, terms: Vec<u32>) -> Link
     }
 }
 
-/// A rule, and the terms that its variables are given.
-fn instance_of(alloc: Global, bytes: &[u8]) -> Result<Option<(Rule, Vec<u32>)>, AllocError>
-    ensures { IfOk result (λ o. option_map
-        (λ r. ((r.0.way, (r.0.number, r.0.path.items)), r.1.items)) o ≡ instance_of bytes.now) }
-{
-    let Some((rule, rest)) = rule_at(alloc, bytes)? else {
-        return Ok(None);
-    };
-    let Some(terms) = numbers_of(alloc, rest)? else {
-        return Ok(None);
-    };
-    Ok(Some((rule, terms)))
-}
-
+#[inline(never)]
 fn assumption_of(alloc: Global, bytes: &[u8]) -> Result<Option<Link>, AllocError>
     ensures { IfOk result (λ o. option_map plain_link o ≡ assumption_of bytes.now) }
 {
@@ -100,6 +112,7 @@ fn assumption_of(alloc: Global, bytes: &[u8]) -> Result<Option<Link>, AllocError
     Ok(Some(Link::Assumption { number, way, path }))
 }
 
+#[inline(never)]
 fn content_of(alloc: Global, bytes: &[u8]) -> Result<Option<Link>, AllocError>
     ensures { IfOk result (λ o. option_map plain_link o ≡ content_of bytes.now) }
 {

@@ -1,13 +1,16 @@
 //! Lines as text is read.
-ghost use Rattle.std.specs.Prelude.{◌≡◌, IfOk};
+ghost use Rattle.std.specs.Prelude.{◌≡◌, IfOk, codes};
 ghost use Rattle.std.specs.Option.{option_map};
-ghost use Rattle.circ_line.specs.Read.{line_of, application_of, short_line, head_of};
+ghost use Rattle.circ_proof.specs.Plain.{plain_link};
+ghost use Rattle.circ_line.specs.Front.{rest_after};
+ghost use Rattle.circ_line.specs.Read.{link_of, line_of, application_of, short_line, head_of};
 ghost use Rattle.circ_line.specs.Read.{frame_lines, first_of, word_line};
 ghost use Rattle.circ_line.specs.Plain.{plain_line, ReadsLine};
 
 use crate::line::{Line, TableLine};
 use crate::links::link_of;
 use crate::numbers::{after_text, field_at, number_of, numbers_of, pair_of};
+use circ_proof::Link;
 use std::alloc::{AllocError, Global};
 
 /// The line that the bytes are the text of, or `None` where they are no line's text. A line feed
@@ -18,13 +21,34 @@ pub fn read_line(alloc: Global, bytes: &[u8]) -> Result<Option<Line>, AllocError
     line_of(alloc, bytes)
 }
 
+/// The bytes of a line after what each link of the left side begins with.
+pub fn after_left(bytes: &[u8]) -> Option<&[u8]>
+    ensures { option_map (λ r. r.now) result ≡ rest_after (codes "left ") bytes.now }
+{
+    after_text(bytes, b"left ")
+}
+
+/// The same of the right side.
+pub fn after_right(bytes: &[u8]) -> Option<&[u8]>
+    ensures { option_map (λ r. r.now) result ≡ rest_after (codes "right ") bytes.now }
+{
+    after_text(bytes, b"right ")
+}
+
+/// The link of a line, of which these are the bytes after its side. It is not moved into a `Line`.
+pub fn read_link(alloc: Global, bytes: &[u8]) -> Result<Option<Link>, AllocError>
+    ensures { IfOk result (λ o. option_map plain_link o ≡ link_of bytes.now) }
+{
+    link_of(alloc, bytes)
+}
+
 fn line_of(alloc: Global, bytes: &[u8]) -> Result<Option<Line>, AllocError>
     ensures { IfOk result (λ o. option_map plain_line o ≡ line_of bytes.now) }
 {
-    if let Some(rest) = after_text(bytes, b"left ") {
+    if let Some(rest) = after_left(bytes) {
         return Ok(link_of(alloc, rest)?.map(|link| Line::Left { link }));
     }
-    if let Some(rest) = after_text(bytes, b"right ") {
+    if let Some(rest) = after_right(bytes) {
         return Ok(link_of(alloc, rest)?.map(|link| Line::Right { link }));
     }
     match after_text(bytes, b"a") {
@@ -33,6 +57,7 @@ fn line_of(alloc: Global, bytes: &[u8]) -> Result<Option<Line>, AllocError>
     }
 }
 
+#[inline(never)]
 fn application_of(alloc: Global, bytes: &[u8]) -> Result<Option<Line>, AllocError>
     ensures { IfOk result (λ o. option_map plain_line o ≡ application_of bytes.now) }
 {
@@ -48,6 +73,7 @@ fn application_of(alloc: Global, bytes: &[u8]) -> Result<Option<Line>, AllocErro
 }
 
 /// A line of two numbers, of one, or of none.
+#[inline(never)]
 fn short_line(bytes: &[u8]) -> Option<Line>
     ensures { option_map plain_line result ≡ short_line bytes.now }
 {

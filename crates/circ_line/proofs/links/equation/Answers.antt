@@ -5,5 +5,5 @@ use Rattle.circ_line.proofs.links.equation.Goals as goal
 
 pub returns : goal.returns
 returns c =
-    equation_plain c.args.rule.number c.args.rule.way c.args.rule.path c.args.terms c.new-conds.result
-    ∙ ap (λ cs. Equation_link c.args.rule.number c.args.rule.way c.args.rule.path.items c.args.terms.items (plain_chains cs)) c.new-conds.ensures.items
+    equation_plain c.args.number c.args.way c.args.path c.args.terms c.new-conds.result
+    ∙ ap (λ cs. Equation_link c.args.number c.args.way c.args.path.items c.args.terms.items (plain_chains cs)) c.new-conds.ensures.items

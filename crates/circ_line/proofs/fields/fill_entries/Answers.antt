@@ -2,7 +2,7 @@ use Rattle.std.proofs.Common.{◌∷◌, ◌++◌, ◌^◌, [], sym, ap, ◌∙�
 use Rattle.circ_line.specs.Front.{marked}
 use Rattle.circ_line.proofs.Many.{shorter, run_push, run_items_at}
 use Rattle.circ_line.proofs.FieldTexts.{steps_item, steps_follow}
-use Rattle.circ_line.proofs.fields.entries_at.Goals as goal
+use Rattle.circ_line.proofs.fields.fill_entries.Goals as goal
 
 pub loop-entry-smaller : goal.loop-entry-smaller
 loop-entry-smaller c = shorter steps_item steps_follow c.loop-entry.rest.now c.in-Some.entry c.in-Some.more.now c.in-Some.ensures.read
