@@ -7,6 +7,7 @@ mod Seeing
 pub mod Sharing
 mod Paired
 mod Using
+mod AsTheyStand
 mod Steps
 mod Meets
 pub mod Cases

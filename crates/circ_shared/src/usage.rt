@@ -1,5 +1,5 @@
 //! Links by themselves: what they lead to where their conditions hold.
-ghost use Rattle.std.specs.Prelude.{◌≡◌, ◌<◌, ◌↔◌, IsTrue, IfOk, List, length, map};
+ghost use Rattle.std.specs.Prelude.{◌≡◌, ◌<◌, ◌↔◌, IsTrue, IfOk, List, [], length, map, true};
 ghost use Rattle.std.specs.List.{slice_get, AllByRecursion};
 ghost use Rattle.std.specs.Option.{option_copied};
 ghost use Rattle.circ_term.specs.Growing.{Grows};
@@ -190,6 +190,54 @@ impl Sources<'_> {
             (goal_at nodes.old pattern.now) way path.now
             (map (named (table_at nodes.old self.now)) terms.now) (tree_at nodes.old term))) }
     {
+        if is_plain(pattern, terms) {
+            return self.by_sides(nodes, pattern, way, path, term);
+        }
+        self.by_instance(nodes, pattern, way, path, terms, term)
+    }
+
+    // The same where nothing is to be given, and there are no conditions: then the sides are
+    // replaced as they stand.
+    fn by_sides(
+        &self,
+        nodes: &mut Nodes,
+        pattern: &Pattern,
+        way: Way,
+        path: &[u16],
+        term: u32,
+    ) -> Result<Option<Use>, AllocError>
+        requires pattern { IsPattern nodes.old pattern.now }
+        requires variables { pattern.now.variables.items ≡ [] }
+        requires conditions { pattern.now.conds.items ≡ [] }
+        requires term { term < length nodes.old }
+        ensures grows { Grows nodes.old nodes.new }
+        ensures exact { IfOk result (OfUse nodes.new (GivesRewriting
+            (goal_at nodes.old pattern.now) way path.now [] (tree_at nodes.old term))) }
+    {
+        let made = exchange(self.alloc, nodes, pattern.sides.turned(way), path, term)?;
+        Ok(unconditional(self.alloc, made))
+    }
+
+    // The same, whatever there is. It stands apart, so that `by_sides` pays nothing for what it owns.
+    #[inline(never)]
+    fn by_instance(
+        &self,
+        nodes: &mut Nodes,
+        pattern: &Pattern,
+        way: Way,
+        path: &[u16],
+        terms: &[u32],
+        term: u32,
+    ) -> Result<Option<Use>, AllocError>
+        requires pattern { IsPattern nodes.old pattern.now }
+        requires table { AllByRecursion (λ n. n < length nodes.old) self.now.table.now }
+        requires in_table { AllByRecursion (λ n. n < length self.now.table.now) terms.now }
+        requires term { term < length nodes.old }
+        ensures grows { Grows nodes.old nodes.new }
+        ensures exact { IfOk result (OfUse nodes.new (GivesRewriting
+            (goal_at nodes.old pattern.now) way path.now
+            (map (named (table_at nodes.old self.now)) terms.now) (tree_at nodes.old term))) }
+    {
         let mut made = Made::new(self.alloc);
         let variables = pattern.variables.as_slice();
         if !bind(self.alloc, nodes, &mut made, variables, self.table, terms)? {
@@ -221,6 +269,7 @@ impl Sources<'_> {
         is_special(nodes, self.gamma, term, path)
     }
 
+    #[inline(never)]
     fn by_assumption(
         &self,
         nodes: &mut Nodes,
@@ -243,6 +292,7 @@ impl Sources<'_> {
         exchange(self.alloc, nodes, assumption.turned(way), path, term)
     }
 
+    #[inline(never)]
     fn by_content(
         &self,
         nodes: &mut Nodes,
@@ -328,6 +378,21 @@ fn unconditional(alloc: Global, made: Option<u32>) -> Option<Use>
         }),
         None => None,
     }
+}
+
+// Whether no terms are given, and the pattern has no variables and no conditions.
+fn is_plain(pattern: &Pattern, terms: &[u32]) -> bool
+    ensures terms { result ≡ true → terms.now ≡ [] }
+    ensures variables { result ≡ true → pattern.now.variables.items ≡ [] }
+    ensures conditions { result ≡ true → pattern.now.conds.items ≡ [] }
+{
+    if !terms.is_empty() {
+        return false;
+    }
+    if !pattern.variables.is_empty() {
+        return false;
+    }
+    pattern.conds.is_empty()
 }
 
 fn pattern_at(patterns: &[Pattern], number: u32) -> Option<&Pattern>

@@ -8,7 +8,7 @@ use Rattle.circ_shared.specs.Patterns.{variable_trees, goal_at}
 use Rattle.circ_shared.specs.Settings.{table_at}
 use Rattle.circ_shared.proofs.Giving.{given_made}
 use Rattle.circ_shared.proofs.Using.{if_of_use, gives_rewriting, unfit_rewriting, turned_from, turned_to}
-use Rattle.circ_shared.proofs.usage.Sources.by_pattern.Goals as goal
+use Rattle.circ_shared.proofs.usage.Sources.by_instance.Goals as goal
 
 pub bind-requires-clause-there : goal.bind-requires-clause-there
 bind-requires-clause-there c =
