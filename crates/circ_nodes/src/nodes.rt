@@ -409,12 +409,16 @@ impl Nodes {
         if !self.have_keys(numbers, terms) {
             return false;
         }
-        for i in 0..terms.len() {
+        if terms.len() == 0 {
+            return true;
+        }
+        let last = terms.len() - 1;
+        for i in 0..last {
             if !self.is_term(numbers[i], &terms[i]) {
                 return false;
             }
         }
-        true
+        self.is_term(numbers[last], &terms[last])
     }
 
     // Whether the terms of these numbers have the fingerprints of these terms.

@@ -463,12 +463,17 @@ fn same_all(a: &[Term], b: &[Term]) -> bool
     if a.len() != b.len() {
         return false;
     }
-    for i in 0..a.len() {
+    if a.len() == 0 {
+        return true;
+    }
+    let last = a.len() - 1;
+    for i in 0..last {
         if !a[i].same(&b[i]) {
             return false;
         }
     }
-    true
+    // A call that comes last costs no return, so that deep terms are compared in a loop.
+    a[last].same(&b[last])
 }
 
 /// How a list of terms stands to another: the first place where they differ decides, and a list
