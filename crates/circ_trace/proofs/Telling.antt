@@ -1,24 +1,17 @@
 -- Lines behind lines, turn by turn.
-use Rattle.std.proofs.Common.{◌≡◌, ℕ, List, [], ◌∷◌, ◌++◌, Result, Ok, Err, refl, ap, sym, subst, ◌∙◌, append_assoc}
+use Rattle.std.proofs.Common.{◌≡◌, ℕ, List, [], ◌∷◌, ◌++◌, Ok, Err, refl, ap, sym, subst, ◌∙◌, append_assoc}
 use Rattle.circ_theory.specs.Theory.{Theory}
 use Rattle.circ_special.specs.declared.place.Place.{Place}
 use Rattle.circ_plain_search.specs.Search.{Standing, Ending}
 use Rattle.circ_plain_search.proofs.Ends.{same_Err}
 use Rattle.circ_plain_search.proofs.Uses.{same_Ok}
 use Rattle.circ_attempt.specs.Search.{Conduct, Going, going, turn_rewriting, FinishesRewriting, stops_so, goes_on_so}
-use Rattle.circ_turn.specs.Ending.{RunEnds}
-use Rattle.circ_turn.specs.declared.end.End.{End}
-use Rattle.circ_turn.specs.declared.end.End.TheVariants as end
 use Rattle.circ_trace.specs.Account.{account}
 use Rattle.circ_trace.specs.Descents.{after_turn, given_row}
 use Rattle.circ_trace.specs.TurnText.{turn_text}
 use Rattle.circ_trace.specs.Tracing.{Turns, ends, goes, turns_text}
 use Rattle.circ_trace.specs.Telling.{IsTold}
 use Rattle.circ_trace.specs.declared.descent.Descent.{Descent}
-
--- a run that ends for want of memory says nothing
-pub memory_ends : {X : Type 0} (R : Ending → Type 0) (st : Standing) (r : Result X End) → (e : End) × (r ≡ Err e) × (e ≡ end.Memory) → RunEnds R st r
-memory_ends {X = X} R st r p = let P : Result X End → Type 0 = λ x. RunEnds R st x in subst P (sym (p.1 ∙ ap Err p.2)) tt
 
 module _ (th : Theory) (G : List Place) (l : Conduct) where
   -- Whatever turns come from here, their lines come behind those so far.

@@ -57,7 +57,9 @@ fn trace_with<'a>(
         (map (λ b. b.items) blocks.now) (plain_ending e)) }
 {
     let mut state = State::start(alloc, blocks, limits.steps)?;
-    trace_from(alloc, theory, limits, gamma, traces, &mut state)
+    let traced = trace_from(alloc, theory, limits, gamma, traces, &mut state);
+    drop(state);
+    traced
 }
 
 // The same from the start of the search.

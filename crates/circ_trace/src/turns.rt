@@ -44,7 +44,9 @@ pub(crate) fn run_turns<'a>(
         (standing state.new) result }
 {
     let mut waiting = given(search.alloc, state.goals.as_slice())?;
-    first_turns(search, state, &mut waiting, out)
+    let done = first_turns(search, state, &mut waiting, out);
+    drop(waiting);
+    done
 }
 
 // The same with the goals of the first block, which are given.
@@ -75,6 +77,7 @@ fn first_turns<'a>(
     );
     drop(rules);
     drop(passes);
+    drop(passed);
     done
 }
 

@@ -1,9 +1,9 @@
 use Rattle.std.proofs.Common.{◌∙◌}
 use Rattle.std.proofs.lemmas.Result.{err_from_is_err_and}
 use Rattle.circ_turn.specs.Standing.{standing, manner_of, conduct_with}
+use Rattle.circ_rewriting_turn.proofs.Going.{memory_ends}
+use Rattle.circ_rewriting_turn.proofs.Reading.{first_read}
 use Rattle.circ_trace.specs.Telling.{IsTold}
-use Rattle.circ_trace.proofs.Telling.{memory_ends}
-use Rattle.circ_trace.proofs.Turning.{first_read}
 use Rattle.circ_trace.proofs.turns.first_turns.Goals as goal
 
 pub turns-done-requires-clause-rules : goal.turns-done-requires-clause-rules

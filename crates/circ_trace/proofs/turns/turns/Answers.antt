@@ -9,9 +9,10 @@ use Rattle.circ_block.specs.Rules.{IsRulesOf}
 use Rattle.circ_turn.specs.Standing.{standing, manner_of, conduct_with}
 use Rattle.circ_turn.proofs.Earlier.{start_earlier}
 use Rattle.circ_turn.proofs.Turning.{is_end}
+use Rattle.circ_rewriting_turn.proofs.Going.{memory_ends}
 use Rattle.circ_trace.specs.Telling.{IsTold}
 use Rattle.circ_trace.specs.declared.descent.Descent.{Descent}
-use Rattle.circ_trace.proofs.Telling.{memory_ends, GoesOn, from_start, one_more, the_last}
+use Rattle.circ_trace.proofs.Telling.{GoesOn, from_start, one_more, the_last}
 use Rattle.circ_trace.proofs.turns.turns.Goals as goal
 
 pub loop-rules-init : goal.loop-rules-init
