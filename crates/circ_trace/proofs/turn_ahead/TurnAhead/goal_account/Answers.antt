@@ -17,7 +17,7 @@ returns-in-Err-clause-exact c =
     let h = rw c.in-Err.is at (sides_here th E g.conds c.assume.new.self.goals.reducer g.left g.right c.args.self.now.state.now.budget c.normal_sides.new.budget
     c.normal_sides.result red c.normal_sides.ensures.exact) in
     no_account th c.args.self.now.search.now.gamma.now (conduct_with c.args.self.now.search.now.limits) (going (standing c.args.self.now.state.now) c.args.self.now.passed.now) g.conds c.in-Err.stop _ h
-    c.none_unless_memory.result c.none_unless_memory.ensures.none c.none_unless_memory.ensures.stopped
+    c.none_unless_memory-none.result c.none_unless_memory-none.ensures.none c.none_unless_memory-none.ensures.stopped
 
 pub returns-in_ok-goal-in-Ok-clause-exact : goal.returns-in_ok-goal-in-Ok-clause-exact
 returns-in_ok-goal-in-Ok-clause-exact c =
