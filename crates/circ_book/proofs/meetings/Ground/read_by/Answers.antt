@@ -1,4 +1,4 @@
-use Rattle.std.proofs.Common.{◌≡◌, ◌<◌, ◌+◌, ◌∷◌, [], List, map, drop, length, get_or, ap, sym, subst, ◌∙◌, arith}
+use Rattle.std.proofs.Common.{◌≡◌, ◌<◌, ◌+◌, ◌∷◌, ◌++◌, [], List, map, drop, length, get_or, ap, sym, subst, ◌∙◌, arith}
 use Rattle.std.specs.List.{AllByRecursion}
 use Rattle.std.proofs.lemmas.List.{length-map, length-append, drop_all}
 use Rattle.circ_term.specs.Tree.{Tree}
@@ -7,36 +7,41 @@ use Rattle.circ_theory.specs.Rewriting.{named}
 use Rattle.circ_theory.specs.Goal.{Goal}
 use Rattle.circ_special.specs.declared.place.Place.{Place}
 use Rattle.circ_proof.specs.PlainProof.{plain_proof, plain_block, plain_step, plain_steps}
-use Rattle.circ_proof.specs.Proof.{Block, IsBlockFor, IsPlainBlock, steps_in}
-use Rattle.circ_proof.specs.Rules.{state, map_step, AllOfStep, StepsOf}
+use Rattle.circ_proof.specs.Proof.{IsBlockFor, IsPlainBlock, steps_in}
+use Rattle.circ_proof.specs.Rules.{State, state, map_step, AllOfStep, StepsOf}
 use Rattle.circ_proof.specs.Accepted.{BlocksDerive}
 use Rattle.circ_proof.specs.Goals.{AreSortedGoals}
 use Rattle.circ_proof.specs.declared.proof.Block.{Block as TheBlock}
 use Rattle.circ_proof.proofs.Sorted.{sorted_none, sorted_append}
 use Rattle.circ_soundness.proofs.Blocks.{block_sorted}
 use Rattle.circ_soundness.proofs.Resolving.{steps_in_table}
+use Rattle.circ_entering.specs.Work.{state_of}
 use Rattle.circ_book.specs.declared.histories.Node.{Node}
 use Rattle.circ_book.specs.declared.book.Followed.{Followed}
 use Rattle.circ_book.specs.declared.book.Derivations.{Derivations}
 use Rattle.circ_book.specs.Book.{derivations}
 use Rattle.circ_expansion.proofs.Expanding.{block_bare}
 use Rattle.circ_book.proofs.Reading.{ReadsTo, reads_first, reads_added, first_runs, others_derive, blocks_few, all_read}
-use Rattle.circ_book.proofs.meetings.Ground.read.Goals as goal
+use Rattle.circ_book.proofs.meetings.Ground.read_by.Goals as goal
 
 pub loop-block-init : goal.loop-block-init
 loop-block-init c =
     let th = c.args.self.now.theory.now in
     let p = plain_proof c.args.proof.now in
+    let none : (state_of c.args.work.now).hypotheses ≡ [] = ap {A = State} (λ x. x.hypotheses) c.requires.start in
     let D : List Goal → Type 0 = λ H. (dss : List (List Goal)) × BlocksDerive th p H p.blocks dss in
     let R1 : List Node → Type 0 = λ y. ReadsTo th p y [] [] [] p.blocks in
     let R2 : List Followed → Type 0 = λ y. ReadsTo th p c.new.result.items y [] [] p.blocks in
     let R3 : List Derivations → Type 0 = λ y. ReadsTo th p c.new.result.items c.new-2.result.items y [] p.blocks in
     let R4 : List Goal → Type 0 = λ y. ReadsTo th p c.new.result.items c.new-2.result.items c.new-3.result.items y p.blocks in
     record {
-      reads = subst R4 (sym c.new-4.ensures.items) (subst R3 (sym c.new-3.ensures.items) (subst R2 (sym c.new-2.ensures.items)
+      work = c.requires.work;
+      terms = c.requires.terms;
+      no_goal = ap {A = State} (λ x. x.goals) c.requires.start;
+      reads = subst R4 (sym none) (subst R3 (sym c.new-3.ensures.items) (subst R2 (sym c.new-2.ensures.items)
           (subst R1 (sym c.new.ensures.items) (reads_first th p))));
-      derive = subst D (sym c.new-4.ensures.items) (c.requires.accepted.0, c.requires.accepted.1.blocks);
-      sorted = (let S : List Goal → Type 0 = AreSortedGoals th in subst S (sym c.new-4.ensures.items) (sorted_none th));
+      derive = subst D (sym none) (c.requires.accepted.0, c.requires.accepted.1.blocks);
+      sorted = (let S : List Goal → Type 0 = AreSortedGoals th in subst S (sym none) (sorted_none th));
       blocks = c.requires.for_theory.blocks;
       plain = c.requires.plain.blocks;
       count = ap length c.new-3.ensures.items;
@@ -85,7 +90,7 @@ add_block-requires-clause-runs c =
     let p = plain_proof c.args.proof.now in
     let x = c.block-item.result in
     let i = c.loop-block.block-index in
-    let H = c.loop-block.state.hyps.items in
+    let H = (state_of c.loop-block.work).hypotheses in
     let dss = c.loop-block.invariant.derive.0 in
     let e = drop_read c.args.proof.now.blocks.items i x (omega (arith, c.loop-block-test.true, ap length c.deref-block-items.ensures.value))
     (c.block-item.is ∙ ap (λ ys. get_or ys c.loop-block.block-index c.block-item.result) c.deref-block-items.ensures.value) in
@@ -117,12 +122,13 @@ loop-block-preserved c =
     let inv = c.loop-block.invariant in
     let x = c.block-item.result in
     let i = c.loop-block.block-index in
-    let H = c.loop-block.state.hyps.items in
+    let H = (state_of c.loop-block.work).hypotheses in
     let bs = map plain_block (drop (i + 1) c.args.proof.now.blocks.items) in
     let e = drop_read c.args.proof.now.blocks.items i x (omega (arith, c.loop-block-test.true, ap length c.deref-block-items.ensures.value))
     (c.block-item.is ∙ ap (λ ys. get_or ys c.loop-block.block-index c.block-item.result) c.deref-block-items.ensures.value) in
     let a = c.in_ok-add_block.ensures.added in
-    let K = c.in_ok-add_block.ensures.hyps in
+    let after = c.in_ok-add_block.ensures.state in
+    let K : (state_of c.add_block.new.work).hypotheses ≡ H ++ x.goals.items = ap {A = State} (λ y. y.hypotheses) after in
     let R : List TheBlock → Type 0 =
     λ ys. ReadsTo th p c.loop-block.book.nodes.items c.loop-block.book.goals.items c.loop-block.book.blocks.items H (map plain_block ys) in
     let D : List TheBlock → Type 0 = λ ys. BlocksDerive th p H (map plain_block ys) inv.derive.0 in
@@ -134,7 +140,10 @@ loop-block-preserved c =
     let steps : steps_in (map plain_block (drop i c.args.proof.now.blocks.items)) ≡ length (plain_steps x.steps.items) + steps_in bs =
     ap (λ ys. steps_in (map plain_block ys)) e in
     record {
-      reads = reads_added th p c.args.self.now.gamma.now c.args.self.now.table.now c.loop-block.book c.add_block.new.book H c.add_block.new.state.hyps.items x bs
+      work = c.in_ok-add_block.ensures.work;
+      terms = c.in_ok-add_block.ensures.terms;
+      no_goal = ap {A = State} (λ y. y.goals) after;
+      reads = reads_added th p c.args.self.now.gamma.now c.args.self.now.table.now c.loop-block.book c.add_block.new.book H (state_of c.add_block.new.work).hypotheses x bs
           c.requires.table c.requires.gamma a K (subst R e inv.reads);
       derive = subst M (sym K) (others_derive th p H (plain_block x) bs inv.derive.0 (subst D e inv.derive.1));
       sorted = subst S (sym K) (sorted_append th H x.goals.items inv.sorted
@@ -150,7 +159,7 @@ returns c =
     let p = plain_proof c.args.proof.now in
     let L : List TheBlock → Type 0 = λ ys.
     ReadsTo c.args.self.now.theory.now p c.loop-block.book.nodes.items c.loop-block.book.goals.items c.loop-block.book.blocks.items
-    c.loop-block.state.hyps.items (map plain_block ys) in
-    all_read c.args.self.now.theory.now p c.loop-block.book c.loop-block.state.hyps.items
+    (state_of c.loop-block.work).hypotheses (map plain_block ys) in
+    all_read c.args.self.now.theory.now p c.loop-block.book (state_of c.loop-block.work).hypotheses
     (subst L (drop_all c.loop-block.block-index c.args.proof.now.blocks.items
     (omega (arith, c.loop-block-test.false, ap length c.deref-block-items.ensures.value))) c.loop-block.invariant.reads)
