@@ -142,3 +142,7 @@ few_met th G f H gs steps ms e =
       length-map (plain_steps steps) (map_step f),
       meetings_few th G H gs (map (map_step f) (plain_steps steps)),
     )
+
+-- where no goal was open, these are that are put behind the others
+pub begun : (a b : State) (gs hs : List Goal) → b ≡ state a.hypotheses (a.goals ++ gs) → a.goals ≡ [] → gs ≡ hs → b ≡ state a.hypotheses hs
+begun a b gs hs e n g = e ∙ ap (λ x. state a.hypotheses (x ++ gs)) n ∙ ap (state a.hypotheses) g

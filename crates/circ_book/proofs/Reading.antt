@@ -12,8 +12,8 @@ use Rattle.circ_proof.specs.PlainProof.{plain_block, plain_steps}
 use Rattle.circ_proof.specs.Rules.{state, ProofStep, map_step, StepsOf}
 use Rattle.circ_proof.specs.Accepted.{steps_of, BlocksDerive}
 use Rattle.circ_proof.specs.declared.proof.Block.{Block as TheBlock}
-use Rattle.circ_expansion.specs.Followed.{Followed as History_in, History, followed_in, told, told_in, Told, hypotheses_of, goals_of}
-use Rattle.circ_book.specs.Histories.{history_at, histories_of, told_at, AreNodes, Adds}
+use Rattle.circ_expansion.specs.Followed.{Followed as History_in, followed_in, told, told_in, Told, hypotheses_of, goals_of}
+use Rattle.circ_book.specs.Histories.{history_at, histories_of, told_at, AreNodes}
 use Rattle.circ_book.specs.Book.{kept_in, followed_by, hypotheses_in, derivations, AddsBlock, IsBook}
 use Rattle.circ_book.specs.declared.book.Book.{Book}
 use Rattle.circ_book.specs.declared.histories.Node.{Node}

@@ -1,5 +1,5 @@
 -- What becomes of goals, as the code keeps it: nodes by number, each of which names nodes before it.
-use Rattle.std.specs.Prelude.{◌≡◌, ◌<◌, ◌≤◌, ℕ, ◌+◌, ◌==◌, if◌then◌else◌, List, [], ◌∷◌, ◌++◌, zero, suc, map, length, take, Option, Some, None}
+use Rattle.std.specs.Prelude.{◌≡◌, ◌<◌, ◌≤◌, ℕ, ◌+◌, ◌==◌, if◌then◌else◌, List, [], ◌∷◌, ◌++◌, zero, suc, map, length}
 use Rattle.std.specs.List.{slice_get, AllByRecursion}
 use Rattle.std.specs.Option.{option_map_or}
 use Rattle.circ_term.specs.Tree.{Tree}
@@ -13,7 +13,7 @@ use Rattle.circ_proof.specs.PlainProof.{plain_step, plain_steps}
 use Rattle.circ_proof.specs.declared.proof.Step.{Step}
 use Rattle.circ_proof.specs.Rules.{ProofStep, map_step, Simplify, Reduce, Derive, Cases, Done, derivatives_on}
 use Rattle.circ_expansion.specs.Followed.{History, Histories, Simplified, Reduced_by, Derived, Open, no_history, more_histories, Told, told_as, and_simplified}
-use Rattle.circ_expansion.specs.Followed.{and_reduced, and_derived, led_goal, Followed}
+use Rattle.circ_expansion.specs.Followed.{and_reduced, and_derived, led_goal}
 use Rattle.circ_book.specs.declared.histories.Node.{Node}
 use Rattle.circ_book.specs.declared.histories.What.{What}
 use Rattle.circ_book.specs.declared.histories.What.TheVariants as what

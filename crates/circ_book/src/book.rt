@@ -5,12 +5,13 @@ ghost use Rattle.std.specs.List.{AllByRecursion};
 ghost use Rattle.circ_theory.specs.Signature.{IsWellSorted};
 ghost use Rattle.circ_theory.specs.Rewriting.{named};
 ghost use Rattle.circ_theory.specs.Goal.{Goal as TheGoal};
-ghost use Rattle.circ_proof.specs.PlainProof.{plain_state, plain_steps};
+ghost use Rattle.circ_proof.specs.PlainProof.{plain_steps};
 ghost use Rattle.circ_proof.specs.Rules.{state as state_with, map_step, AllOfStep};
 ghost use Rattle.circ_proof.specs.Rules.{IsSortedState, StepsOf};
 ghost use Rattle.circ_proof.specs.Proof.{IsPlainStep, IsPlain, ProofFor};
 ghost use Rattle.circ_proof.specs.PlainProof.{plain_proof};
 ghost use Rattle.circ_proof.specs.Accepted.{Accepted};
+ghost use Rattle.circ_entering.specs.Work.{state_of, table_of, IsWork};
 ghost use Rattle.circ_book.specs.Book.{AddsBlock, IsBook, kept_in, derivations};
 ghost use Rattle.circ_book.specs.Book.{kept_hypotheses, kept_at};
 ghost use Rattle.std.specs.List.{slice_get};
@@ -18,7 +19,8 @@ ghost use Rattle.std.specs.Option.{option_copied, option_map};
 
 use crate::histories::{Node, Numbers, tell};
 use crate::meetings::Ground;
-use circ_proof::{Block, Proof, State};
+use circ_entering::Work;
+use circ_proof::{Block, Proof};
 use circ_theory::Goal;
 use std::alloc::{AllocError, Global};
 use std::collections::VecDeque;
@@ -120,43 +122,50 @@ fn put_last(
 }
 
 impl Ground<'_> {
-    /// One block more. The hypotheses at first are the goals of the blocks before it, and its own
-    /// come behind them.
-    pub fn add_block<'a>(
+    // One block more. The hypotheses at first are the goals of the blocks before it, and its own
+    // come behind them.
+    fn add_block<'a>(
         &self,
         book: &mut Book<'a>,
-        state: &mut State,
+        work: &mut Work,
         block: &'a Block,
     ) -> Result<(), AllocError>
+        requires work { IsWork self.now.theory.now work.old }
+        requires terms { table_of work.old ≡ self.now.table.now }
+        requires no_goal { (state_of work.old).goals ≡ [] }
         requires in_table { AllByRecursion (AllOfStep (λ n. n < length self.now.table.now))
             (plain_steps block.now.steps.items) }
         requires table_sorted { AllByRecursion (IsWellSorted self.now.theory.now.signature)
             self.now.table.now }
         requires sorted { IsSortedState self.now.theory.now
-            (state_with state.old.hyps.items block.now.goals.items) }
+            (state_with (state_of work.old).hypotheses block.now.goals.items) }
         requires bare_goals { AllByRecursion (λ g. g.conds ≡ []) block.now.goals.items }
         requires plain_steps { AllByRecursion IsPlainStep (plain_steps block.now.steps.items) }
         requires runs { (F : List TheGoal) × StepsOf self.now.theory.now self.now.gamma.now
             (map (map_step (named self.now.table.now)) (plain_steps block.now.steps.items))
-            (state_with state.old.hyps.items block.now.goals.items) (state_with F []) }
+            (state_with (state_of work.old).hypotheses block.now.goals.items)
+            (state_with F []) }
         requires room { length book.old.nodes.items + length block.now.steps.items ≤ 2 ^ 31 }
         requires few { length book.old.blocks.items < 2 ^ 32 }
+        ensures work { OnOk result (IsWork self.now.theory.now work.new) }
+        ensures terms { OnOk result (table_of work.new ≡ self.now.table.now) }
+        ensures state { OnOk result (state_of work.new ≡ state_with
+            ((state_of work.old).hypotheses ++ block.now.goals.items) []) }
         ensures added { OnOk result (AddsBlock self.now.theory.now self.now.gamma.now
-            self.now.table.now book.old book.new state.old.hyps.items block.now) }
-        ensures hyps { OnOk result (state.new.hyps.items ≡
-            state.old.hyps.items ++ block.now.goals.items) }
+            self.now.table.now book.old book.new (state_of work.old).hypotheses block.now) }
     {
-        let earlier = state.hyps.len();
-        begin(self.alloc, state, block.goals.as_slice())?;
-        let met = self.meet(state, block.steps.as_slice())?;
+        let earlier = work.hypothesis_count();
+        work.put(self.alloc, block.goals.as_slice())?;
+        let met = self.meet(work, block.steps.as_slice())?;
         let told = tell(self.alloc, &mut book.nodes, met, block.steps.as_slice())?;
         book.note(told)?;
-        state.hyps.truncate(earlier);
-        add_goals(self.alloc, &mut state.hyps, block.goals.as_slice())?;
+        work.keep(earlier);
+        work.assume(self.alloc, block.goals.as_slice())?;
         Ok(())
     }
 
-    /// All blocks of an accepted proof, in order.
+    /// All blocks of an accepted proof, in order. Costs what its steps cost by number, and a
+    /// look-up for each node of the table's terms, counted as trees.
     pub fn read<'a>(&self, proof: &'a Proof) -> Result<Book<'a>, AllocError>
         requires table { self.now.table.now ≡ proof.now.table.items }
         requires gamma { self.now.gamma.now ≡ proof.now.gamma }
@@ -166,40 +175,30 @@ impl Ground<'_> {
         ensures { IfOk result (IsBook self.now.theory.now (plain_proof proof.now)) }
     {
         self.theory.known();
+        let mut work = Work::new(self.alloc, self.theory, self.table)?;
+        self.read_by(&mut work, proof)
+    }
+
+    // The same by rules that have numbers, where there is no hypothesis and no goal.
+    fn read_by<'a>(&self, work: &mut Work, proof: &'a Proof) -> Result<Book<'a>, AllocError>
+        requires work { IsWork self.now.theory.now work.old }
+        requires terms { table_of work.old ≡ self.now.table.now }
+        requires start { state_of work.old ≡ state_with [] [] }
+        requires table { self.now.table.now ≡ proof.now.table.items }
+        requires gamma { self.now.gamma.now ≡ proof.now.gamma }
+        requires for_theory { ProofFor self.now.theory.now (plain_proof proof.now) }
+        requires plain { IsPlain (plain_proof proof.now) }
+        requires accepted { Accepted self.now.theory.now (plain_proof proof.now) }
+        ensures { IfOk result (IsBook self.now.theory.now (plain_proof proof.now)) }
+    {
         let mut book = Book {
             nodes: Vec::new(self.alloc),
             goals: Vec::new(self.alloc),
             blocks: Vec::new(self.alloc),
         };
-        let mut state = State {
-            hyps: Vec::new(self.alloc),
-            goals: VecDeque::new(self.alloc),
-        };
         for block in &proof.blocks {
-            self.add_block(&mut book, &mut state, block)?;
+            self.add_block(&mut book, work, block)?;
         }
         Ok(book)
     }
-}
-
-// These goals are the open ones.
-fn begin(alloc: Global, state: &mut State, goals: &[Goal]) -> Result<(), AllocError>
-    ensures hyps { state.new.hyps.items ≡ state.old.hyps.items }
-    ensures goals { OnOk result (state.new.goals.items ≡ goals.now) }
-{
-    state.goals.clear();
-    for goal in goals {
-        state.goals.push_back(goal.share(alloc)?)?;
-    }
-    Ok(())
-}
-
-// Goals are put last once more.
-fn add_goals(alloc: Global, hyps: &mut Vec<Goal>, goals: &[Goal]) -> Result<(), AllocError>
-    ensures { OnOk result (hyps.new.items ≡ hyps.old.items ++ goals.now) }
-{
-    for goal in goals {
-        hyps.push(goal.share(alloc)?)?;
-    }
-    Ok(())
 }

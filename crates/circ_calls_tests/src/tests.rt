@@ -5,6 +5,7 @@ ghost use Rattle.circ_proof.specs.PlainProof.{plain_proof};
 ghost use Rattle.circ_proof.specs.Proof.{ProofFor};
 
 use circ_aci::{canonical, content, same_content};
+use circ_calls::{Admission, admit, apply, follow, follow_all, follow_why};
 use circ_check::{Verdict, check, derived};
 use circ_file::laws::decoded_bytes_are_the_text;
 use circ_file::{decode, encode};
@@ -15,16 +16,17 @@ use circ_match::{match_pair, match_term};
 use circ_memo::normalise;
 use circ_mixfix::{ParseFault, Reading, parse_one, parse_pair, print};
 use circ_outer::{SureShelf, SureSink};
-use circ_proof::{Chain, Link, Proof, Why};
+use circ_proof::{Chain, Link, Proof, State, Step, Why};
 use circ_read::read_theory;
 use circ_regex::lang_theory;
-use circ_replay::{TableBuilder, follow, follow_all, follow_why};
+use circ_replay::TableBuilder;
 use circ_show::{theory_text, unobserved};
 use circ_special::Gamma;
 use circ_term::{Path, Subst, Term, TermFault};
 use circ_theory::{Goal, Pair, Pairs, Theory, in_order, parameters_in_order};
 use circ_top::sure::circ_in_memory;
 use std::alloc::{AllocError, Global};
+use std::collections::VecDeque;
 
 // Each of the variables 0 and 1 is bound to the other.
 fn exchanged(subst: &mut Subst) -> Result<Vec<Term>, AllocError> {
@@ -351,6 +353,25 @@ fn are_replayed(alloc: Global, theory: &Theory) -> bool {
 fn replays(rt: HostRuntime) {
     let theory = read_theory(rt.alloc(), SETS);
     assert!(rt; theory.is_ok_and(|theory| are_replayed(rt.alloc(), &theory)));
+}
+
+// Whether nothing is left where nothing was to be shown, and no certificate is missed where none is
+// due.
+fn is_nothing_left(alloc: Global, theory: &Theory) -> bool {
+    let gamma = Gamma::empty(alloc);
+    let mut state = State {
+        hyps: Vec::new(alloc),
+        goals: VecDeque::new(alloc),
+    };
+    let done = apply(alloc, theory, &[], &gamma, &mut state, &Step::Done);
+    let admitted = admit(alloc, theory, &[], &gamma, &[]);
+    done == Ok(true) && admitted == Ok(Admission::Yes)
+}
+
+#[test]
+fn steps(rt: HostRuntime) {
+    let theory = read_theory(rt.alloc(), SETS);
+    assert!(rt; theory.is_ok_and(|theory| is_nothing_left(rt.alloc(), &theory)));
 }
 
 const FILE: &[u8] = b"theory NOT is sort Bit . ops 0 1 : -> Bit . endtheory";

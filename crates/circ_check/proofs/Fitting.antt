@@ -1,5 +1,5 @@
 -- A part that fits behind earlier parts is what a checker needs that has taken these.
-use Rattle.std.proofs.Common.{◌≡◌, ◌+◌, ◌<◌, ℕ, Bool, true, false, List, [], ◌∷◌, ◌++◌, length}
+use Rattle.std.proofs.Common.{◌≡◌, ◌+◌, ◌<◌, ◌≤◌, ℕ, Bool, true, false, List, [], ◌∷◌, ◌++◌, length}
 use Rattle.std.proofs.Common.{inl, inr, refl, ap, sym, subst, ◌∙◌, arith}
 use Rattle.std.specs.List.{AllByRecursion}
 use Rattle.circ_term.specs.Tree.{Tree}
@@ -14,8 +14,8 @@ use Rattle.circ_proof.specs.Plain.{LinkOf}
 use Rattle.circ_proof.specs.Runs.{Runs}
 use Rattle.circ_proof.specs.Rules.{ProofStep, Simplify, Reduce, Derive, Cases, Done}
 use Rattle.circ_proof.specs.Certified.{due}
-use Rattle.circ_proof.specs.Proof.{GoalNames, AreLinksFor, IsStepFor, IsConditionFor, IsNameFor, step_limit}
-use Rattle.circ_proof.specs.Parts.{Part, Head, Certificate, Goals, Step}
+use Rattle.circ_proof.specs.Proof.{GoalNames, Block, Proof, ProofFor, AreLinksFor, IsStepFor, IsBlockFor, IsConditionFor, IsNameFor, step_limit, steps_in}
+use Rattle.circ_proof.specs.Parts.{Part, Head, Certificate, Goals, Step, certificate_parts, step_parts, block_parts, parts_of}
 use Rattle.circ_proof.specs.Fitting.{AreGoalsFor, FitSteps, FitBlocks, FitRest, Fit}
 use Rattle.circ_proof.proofs.FewPlaces.{few_due}
 use Rattle.circ_proof.proofs.Sorted.{sorted_none, sorted_append}
@@ -177,33 +177,49 @@ ready_with : (th : Theory) (ts : List Tree) (ps : List Place) (c : Checking) →
     → AllByRecursion (IsWellSorted th.signature) c.table × IsSet th c.places
 ready_with th ts ps c k = (subst (AllByRecursion (IsWellSorted th.signature)) (sym k.table) k.sorted, subst (IsSet th) (sym k.places) k.set)
 
+-- certificates, where n were before, and what comes behind them
+abbrev Rest : Theory → List Tree → List Place → ℕ → List Part → Type 0
+Rest th ts ps n [] = Unit {0}
+Rest th ts ps n (Certificate ls ∷ xs) = (n < length (due th ps)) × AreLinksFor (length ts) ls × Rest th ts ps (n + 1) xs
+Rest th ts ps n (Goals gs ns ∷ xs) = (n ≡ length (due th ps)) × Later th ts 0 (Goals gs ns ∷ xs)
+Rest th ts ps n (Head us gs ∷ xs) = ⊥
+Rest th ts ps n (Step s ∷ xs) = ⊥
+
+-- parts that begin with the head
+abbrev Whole : Theory → List Part → Type 0
+Whole th [] = Unit {0}
+Whole th (Head ts ps ∷ xs) = AllByRecursion (IsWellSorted th.signature) ts × IsSet th ps × Rest th ts ps 0 xs
+Whole th (Certificate ls ∷ xs) = ⊥
+Whole th (Goals gs ns ∷ xs) = ⊥
+Whole th (Step s ∷ xs) = ⊥
+
 module _ (th : Theory) (ok : IsWellFormed th) (ts : List Tree) (ps : List Place) where
-  later_ready : (m : ℕ) (xs : List Part) (x : Part) (c d : Checking) → Later th ts m (xs ++ x ∷ []) → Knows th ts ps c
+  later_ready : (m : ℕ) (xs : List Part) (x : Part) (ys : List Part) (c d : Checking) → Later th ts m (xs ++ x ∷ ys) → Knows th ts ps c
       → c.tally.count ≡ length (due th ps) + m → Runs (TakesPart th) xs c d → IsPartReady th d x
-  later_ready m [] (Goals gs ns) c d f k e r = subst (λ y. IsPartReady th y (Goals gs ns)) r (record {
+  later_ready m [] (Goals gs ns) ys c d f k e r = subst (λ y. IsPartReady th y (Goals gs ns)) r (record {
     sorted = (ready_with th ts ps c k).0;
     set = (ready_with th ts ps c k).1;
     part = (k.goals, goals_sorted th ts k.sorted gs ns f.0, subst (λ us. AreNamedGoals us gs ns) (sym k.table) (goals_named th ts gs ns f.0));
   })
-  later_ready m [] (Step s) c d f k e r = subst (λ y. IsPartReady th y (Step s)) r (record {
+  later_ready m [] (Step s) ys c d f k e r = subst (λ y. IsPartReady th y (Step s)) r (record {
     sorted = (ready_with th ts ps c k).0;
     set = (ready_with th ts ps c k).1;
     part = (omega (arith, e, f.0, few_due th ps ok k.set), subst (λ us. IsStepFor (length us) s) (sym k.table) f.1);
   })
-  later_ready m [] (Head us gs) c d f k e r = absurd f
-  later_ready m [] (Certificate ls) c d f k e r = absurd f
-  later_ready m (Goals gs ns ∷ xs) x c d f k e r =
+  later_ready m [] (Head us gs) ys c d f k e r = absurd f
+  later_ready m [] (Certificate ls) ys c d f k e r = absurd f
+  later_ready m (Goals gs ns ∷ xs) x ys c d f k e r =
       let s = goals_keep th ts ps c r.0 c.stopped gs k (goals_sorted th ts k.sorted gs ns f.0) r.1 in
-      later_ready m xs x r.0 d f.1 s.knows (s.count ∙ e) r.2
-  later_ready m (Step t ∷ xs) x c d f k e r =
+      later_ready m xs x ys r.0 d f.1 s.knows (s.count ∙ e) r.2
+  later_ready m (Step t ∷ xs) x ys c d f k e r =
       let s = step_keeps th c r.0 c.stopped t r.1 in
-      later_ready (m + 1) xs x r.0 d f.2 (kept_known th ts ps c r.0 1 k s) (omega (arith, s.count, e)) r.2
-  later_ready m (Head us gs ∷ xs) x c d f k e r = absurd f
-  later_ready m (Certificate ls ∷ xs) x c d f k e r = absurd f
+      later_ready (m + 1) xs x ys r.0 d f.2 (kept_known th ts ps c r.0 1 k s) (omega (arith, s.count, e)) r.2
+  later_ready m (Head us gs ∷ xs) x ys c d f k e r = absurd f
+  later_ready m (Certificate ls ∷ xs) x ys c d f k e r = absurd f
 
-  rest_ready : (n : ℕ) (xs : List Part) (x : Part) (c d : Checking) → FitRest th ts ps n (xs ++ x ∷ []) → Knows th ts ps c → c.tally.count ≡ n
+  rest_ready : (n : ℕ) (xs : List Part) (x : Part) (ys : List Part) (c d : Checking) → Rest th ts ps n (xs ++ x ∷ ys) → Knows th ts ps c → c.tally.count ≡ n
       → n + length c.due ≡ length (due th ps) → Runs (TakesPart th) xs c d → IsPartReady th d x
-  rest_ready n [] (Certificate ls) c d f k e l r = subst (λ y. IsPartReady th y (Certificate ls)) r (record {
+  rest_ready n [] (Certificate ls) ys c d f k e l r = subst (λ y. IsPartReady th y (Certificate ls)) r (record {
     sorted = (ready_with th ts ps c k).0;
     set = (ready_with th ts ps c k).1;
     part = (
@@ -212,32 +228,92 @@ module _ (th : Theory) (ok : IsWellFormed th) (ts : List Tree) (ps : List Place)
       subst (λ us. AreLinksFor (length us) ls) (sym k.table) f.1,
     );
   })
-  rest_ready n [] (Goals gs ns) c d f k e l r = later_ready 0 [] (Goals gs ns) c d (blocks_later th ts 0 (Goals gs ns ∷ []) f.1) k (omega (arith, e, f.0)) r
-  rest_ready n [] (Head us gs) c d f k e l r = absurd f
-  rest_ready n [] (Step s) c d f k e l r = absurd f
-  rest_ready n (Certificate ls ∷ xs) x c d f k e l r =
+  rest_ready n [] (Goals gs ns) ys c d f k e l r = later_ready 0 [] (Goals gs ns) ys c d f.1 k (omega (arith, e, f.0)) r
+  rest_ready n [] (Head us gs) ys c d f k e l r = absurd f
+  rest_ready n [] (Step s) ys c d f k e l r = absurd f
+  rest_ready n (Certificate ls ∷ xs) x ys c d f k e l r =
       let s = certificate_keeps th c r.0 c.due _ refl r.1 in
-      rest_ready (n + 1) xs x r.0 d f.2 (kept_known th ts ps c r.0 1 k s.keeps) (omega (arith, s.keeps.count, e)) (omega (arith, s.due, l)) r.2
-  rest_ready n (Goals gs ns ∷ xs) x c d f k e l r =
-      later_ready 0 (Goals gs ns ∷ xs) x c d (blocks_later th ts 0 (Goals gs ns ∷ (xs ++ x ∷ [])) f.1) k (omega (arith, e, f.0)) r
-  rest_ready n (Head us gs ∷ xs) x c d f k e l r = absurd f
-  rest_ready n (Step s ∷ xs) x c d f k e l r = absurd f
+      rest_ready (n + 1) xs x ys r.0 d f.2 (kept_known th ts ps c r.0 1 k s.keeps) (omega (arith, s.keeps.count, e)) (omega (arith, s.due, l)) r.2
+  rest_ready n (Goals gs ns ∷ xs) x ys c d f k e l r = later_ready 0 (Goals gs ns ∷ xs) x ys c d f.1 k (omega (arith, e, f.0)) r
+  rest_ready n (Head us gs ∷ xs) x ys c d f k e l r = absurd f
+  rest_ready n (Step s ∷ xs) x ys c d f k e l r = absurd f
 
--- The part that fits comes next.
-pub part_ready : (th : Theory) → IsWellFormed th → (xs : List Part) (x : Part) (c : Checking) → Fit th (xs ++ x ∷ []) → StandFor th xs c → IsPartReady th c x
-part_ready th ok [] (Head ts ps) c f r = subst (λ y. IsPartReady th y (Head ts ps)) r (record {
+whole_ready : (th : Theory) → IsWellFormed th → (xs : List Part) (x : Part) (ys : List Part) (c : Checking) → Whole th (xs ++ x ∷ ys) → StandFor th xs c
+    → IsPartReady th c x
+whole_ready th ok [] (Head ts ps) ys c f r = subst (λ y. IsPartReady th y (Head ts ps)) r (record {
   sorted = tt;
   set = record { increasing = tt; places = tt };
   part = tt;
 })
-part_ready th ok [] (Certificate ls) c f r = absurd f
-part_ready th ok [] (Goals gs ns) c f r = absurd f
-part_ready th ok [] (Step s) c f r = absurd f
-part_ready th ok (Head ts ps ∷ xs) x c f r =
+whole_ready th ok [] (Certificate ls) ys c f r = absurd f
+whole_ready th ok [] (Goals gs ns) ys c f r = absurd f
+whole_ready th ok [] (Step s) ys c f r = absurd f
+whole_ready th ok (Head ts ps ∷ xs) x ys c f r =
     let d : Checking = record nothing_taken { table = ts; places = ps; due = due th ps } in
-    let k : Knows th ts ps d = record { table = refl; places = refl; sorted = f.0.sorted; set = f.0.set; goals = sorted_none th } in
+    let k : Knows th ts ps d = record { table = refl; places = refl; sorted = f.0; set = f.1; goals = sorted_none th } in
     let P : Checking → Type 0 = λ y. Runs (TakesPart th) xs y c in
-    rest_ready th ok ts ps 0 xs x d c f.1 k refl (omega arith) (subst P r.1 r.2)
-part_ready th ok (Certificate ls ∷ xs) x c f r = absurd f
-part_ready th ok (Goals gs ns ∷ xs) x c f r = absurd f
-part_ready th ok (Step s ∷ xs) x c f r = absurd f
+    rest_ready th ok ts ps 0 xs x ys d c f.2 k refl (omega arith) (subst P r.1 r.2)
+whole_ready th ok (Certificate ls ∷ xs) x ys c f r = absurd f
+whole_ready th ok (Goals gs ns ∷ xs) x ys c f r = absurd f
+whole_ready th ok (Step s ∷ xs) x ys c f r = absurd f
+
+-- ---- parts that fit behind one another
+
+rest_fits : (th : Theory) (ts : List Tree) (ps : List Place) (n : ℕ) (xs : List Part) → FitRest th ts ps n xs → Rest th ts ps n xs
+rest_fits th ts ps n [] f = tt
+rest_fits th ts ps n (Certificate ls ∷ xs) f = (f.0, f.1, rest_fits th ts ps (n + 1) xs f.2)
+rest_fits th ts ps n (Goals gs ns ∷ xs) f = (f.0, blocks_later th ts 0 (Goals gs ns ∷ xs) f.1)
+rest_fits th ts ps n (Head us gs ∷ xs) f = absurd f
+rest_fits th ts ps n (Step s ∷ xs) f = absurd f
+
+whole_fits : (th : Theory) (xs : List Part) → Fit th xs → Whole th xs
+whole_fits th [] f = tt
+whole_fits th (Head ts ps ∷ xs) f = (f.0.sorted, f.0.set, rest_fits th ts ps 0 xs f.1)
+whole_fits th (Certificate ls ∷ xs) f = absurd f
+whole_fits th (Goals gs ns ∷ xs) f = absurd f
+whole_fits th (Step s ∷ xs) f = absurd f
+
+-- The part that fits comes next.
+pub part_ready : (th : Theory) → IsWellFormed th → (xs : List Part) (x : Part) (c : Checking) → Fit th (xs ++ x ∷ []) → StandFor th xs c → IsPartReady th c x
+part_ready th ok xs x c f r = whole_ready th ok xs x [] c (whole_fits th (xs ++ x ∷ []) f) r
+
+-- ---- the parts of a proof that fits
+
+steps_fit : (th : Theory) (ts : List Tree) (m : ℕ) (ss : List (ProofStep ℕ)) (k : List Part) → AllByRecursion (IsStepFor (length ts)) ss
+    → m + length ss ≤ step_limit → Later th ts (m + length ss) k → Later th ts m (step_parts ss ++ k)
+steps_fit th ts m [] k a l f = let e : m + 0 ≡ m = omega arith in let P : ℕ → Type 0 = λ n. Later th ts n k in subst P e f
+steps_fit th ts m (s ∷ ss) k a l f =
+    let e : m + length (s ∷ ss) ≡ m + 1 + length ss = omega arith in
+    let P : ℕ → Type 0 = λ n. Later th ts n k in
+    (omega (arith, l), a.0, steps_fit th ts (m + 1) ss k a.1 (omega (arith, l)) (subst P e f))
+
+blocks_fit : (th : Theory) (ts : List Tree) (m : ℕ) (bs : List Block) → AllByRecursion (IsBlockFor th ts) bs → m + steps_in bs ≤ step_limit
+    → Later th ts m (block_parts bs)
+blocks_fit th ts m [] a l = tt
+blocks_fit th ts m (b ∷ bs) a l = (
+  record { some_goal = a.0.some_goal; names_fit = a.0.names; goals_are = a.0.goals },
+  steps_fit th ts m b.steps (block_parts bs) a.0.steps (omega (arith, l)) (blocks_fit th ts (m + length b.steps) bs a.1 (omega (arith, l))),
+)
+
+-- behind the last certificate
+no_more : (th : Theory) (ts : List Tree) (ps : List Place) (n : ℕ) (bs : List Block) → n ≡ length (due th ps) → Later th ts 0 (block_parts bs)
+    → Rest th ts ps n (block_parts bs)
+no_more th ts ps n [] e f = tt
+no_more th ts ps n (b ∷ bs) e f = (e, f)
+
+certificates_fit : (th : Theory) (ts : List Tree) (ps : List Place) (n : ℕ) (lss : List (List (LinkOf ℕ))) (bs : List Block)
+    → AllByRecursion (AreLinksFor (length ts)) lss → n + length lss ≡ length (due th ps) → Later th ts 0 (block_parts bs)
+    → Rest th ts ps n (certificate_parts lss ++ block_parts bs)
+certificates_fit th ts ps n [] bs a e f = no_more th ts ps n bs (omega (arith, e)) f
+certificates_fit th ts ps n (ls ∷ lss) bs a e f = (omega (arith, e), a.0, certificates_fit th ts ps (n + 1) lss bs a.1 (omega (arith, e)) f)
+
+-- Its next part is what a checker needs that has taken those before it.
+pub proof_ready : (th : Theory) → IsWellFormed th → (p : Proof) → ProofFor th p → (xs : List Part) (x : Part) (ys : List Part) (c : Checking)
+    → parts_of p ≡ xs ++ x ∷ ys → StandFor th xs c → IsPartReady th c x
+proof_ready th ok p f xs x ys c e r =
+    let w : Whole th (parts_of p) = (
+      f.sorted,
+      f.places,
+      certificates_fit th p.table p.places 0 p.certificates p.blocks f.certificates (omega (arith, f.one_each)) (blocks_fit th p.table 0 p.blocks f.blocks (omega (arith, f.few_steps))),
+    ) in
+    whole_ready th ok xs x ys c (subst (Whole th) e w) r

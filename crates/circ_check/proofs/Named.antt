@@ -8,14 +8,12 @@ use Rattle.circ_term.specs.Tree.{Tree}
 use Rattle.circ_term.proofs.Within.{drop_read}
 use Rattle.circ_theory.specs.Theory.{Pair, pair_with, goal}
 use Rattle.circ_theory.specs.Rewriting.{named}
-use Rattle.circ_theory.specs.Pairs.{plain_pair}
-use Rattle.circ_theory.specs.Pairs.{PairOfTerms}
 use Rattle.circ_theory.specs.Goal.{Goal}
 use Rattle.circ_proof.specs.Proof.{GoalNames, goal_at as named_goal, pair_at as named_pair}
 use Rattle.circ_proof.specs.PlainProof.{plain_names}
 use Rattle.circ_proof.specs.declared.proof.GoalNames.{GoalNames as TheNames}
 use Rattle.circ_nodes.specs.Named.{tree_at}
-use Rattle.circ_shared.specs.Patterns.{pair_at, pairs_at, goal_at, IsThere, AreThere, IsPattern}
+use Rattle.circ_shared.specs.Patterns.{pairs_at, goal_at, IsThere, AreThere, IsPattern}
 use Rattle.circ_shared.specs.declared.patterns.Pattern.{Pattern}
 use Rattle.circ_shared.specs.declared.patterns.Sides.{Sides}
 use Rattle.circ_shared.proofs.Giving.{named_in}
@@ -162,21 +160,6 @@ goals_all terms names nodes i gs ps h a =
       sym (append-nil (shared_goals nodes gs)) ∙ ap (λ xs. shared_goals nodes gs ++ map (named_goal terms) (map plain_names xs)) none ∙ a.seen,
       sym (append-nil (map (goal_at nodes) ps)) ∙ ap (λ xs. map (goal_at nodes) ps ++ map (named_goal terms) (map plain_names xs)) none ∙ a.owned,
     )
-
--- ---- pairs of terms that were built
-
-pub pairs_made : (nodes : List Tree) (ss : List Sides) (i : ℕ) (s : Sides) (old new : List PairOfTerms) (p : PairOfTerms) → i < length ss → s ≡ get_or ss i s
-    → plain_pair p ≡ pair_at nodes s → new ≡ old ++ p ∷ [] → map plain_pair old ++ pairs_at nodes (drop i ss) ≡ pairs_at nodes ss
-    → map plain_pair new ++ pairs_at nodes (drop (i + 1) ss) ≡ pairs_at nodes ss
-pairs_made nodes ss i s old new p h read same put made =
-    let rest = pairs_at nodes (drop (i + 1) ss) in
-    ap (λ zs. map plain_pair zs ++ rest) put ∙ ap (λ zs. zs ++ rest) (map-append plain_pair old (p ∷ [])) ∙ append_assoc (map plain_pair old) (plain_pair p ∷ []) rest
-    ∙ ap (λ y. map plain_pair old ++ y ∷ rest) same ∙ ap (λ zs. map plain_pair old ++ pairs_at nodes zs) (sym (drop_read ss i s h read)) ∙ made
-
-pub pairs_whole : (nodes : List Tree) (ss : List Sides) (i : ℕ) (made : List PairOfTerms) → length ss ≤ i
-    → map plain_pair made ++ pairs_at nodes (drop i ss) ≡ pairs_at nodes ss → map plain_pair made ≡ pairs_at nodes ss
-pairs_whole nodes ss i made h e =
-    sym (append-nil (map plain_pair made)) ∙ ap (λ zs. map plain_pair made ++ pairs_at nodes zs) (sym (drop_all i ss h)) ∙ e
 
 -- ---- a goal as a pattern
 

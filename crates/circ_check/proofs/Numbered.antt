@@ -1,15 +1,14 @@
 -- What has a number stays when terms are added, and what stays when a block ends.
 use Rattle.std.proofs.Common.{◌≡◌, ◌≤◌, ◌<◌, ℕ, zero, suc, true, List, [], ◌∷◌, ◌++◌, map, take, drop, length}
-use Rattle.std.proofs.Common.{refl, ap, sym, subst, ◌∙◌, arith, length-append}
-use Rattle.std.proofs.lemmas.List.{take-append-drop, take-append-le, length-map, map-append}
+use Rattle.std.proofs.Common.{refl, ap, sym, subst, ◌∙◌}
+use Rattle.std.proofs.lemmas.List.{take-append-drop, take-append-le, length-map}
 use Rattle.std.specs.List.{AllByRecursion}
 use Rattle.circ_term.specs.Growing.{Grows}
 use Rattle.circ_term.specs.Tree.{Tree}
-use Rattle.circ_theory.specs.Signature.{IsWellSorted}
 use Rattle.circ_theory.specs.Theory.{Theory, goal_of}
 use Rattle.circ_proof.specs.Plain.{LinkOf}
 use Rattle.circ_proof.specs.Link.{AllOfLinks}
-use Rattle.circ_proof.specs.Rules.{ProofStep, Simplify, AllOfStep, state}
+use Rattle.circ_proof.specs.Rules.{ProofStep, Simplify, AllOfStep}
 use Rattle.circ_proof.specs.Proof.{AreLinksFor, IsStepFor}
 use Rattle.circ_soundness.proofs.Resolving.{steps_in_table}
 use Rattle.circ_nodes.specs.Named.{tree_at}

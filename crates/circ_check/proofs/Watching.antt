@@ -15,19 +15,20 @@ use Rattle.circ_theory.specs.Goal.{Goal}
 use Rattle.circ_special.specs.declared.place.Place.{Place}
 use Rattle.circ_proof.specs.Plain.{LinkOf}
 use Rattle.circ_proof.specs.Link.{resolved_links}
-use Rattle.circ_proof.specs.Rules.{State, state, IsSortedState, ProofStep, map_step, StepOf}
+use Rattle.circ_proof.specs.Rules.{State, state, IsSortedState, ProofStep, map_step}
 use Rattle.circ_proof.specs.Proof.{GoalNames, Proof, ProofFor, goal_at as named_goal}
 use Rattle.circ_proof.specs.Parts.{Part, Head, Certificate, Goals, Step, parts_of}
 use Rattle.circ_proof.specs.Fitting.{Fit}
 use Rattle.circ_proof.specs.Certified.{due}
-use Rattle.circ_proof.specs.Accepted.{Derives, FirstFail}
+use Rattle.circ_proof.specs.Accepted.{Accepted, Derives, FirstFail}
+use Rattle.circ_soundness.proofs.Failing.{not_both}
 use Rattle.circ_soundness.proofs.Sound.{goals_behave}
 use Rattle.circ_rules.specs.Answers.{Applies}
 use Rattle.circ_rules.specs.Due.{due_after, CertifiesNext}
 use Rattle.circ_rules.specs.declared.due.Due.{Due}
 use Rattle.circ_nodes.specs.Named.{tree_at}
 use Rattle.circ_nodes.specs.Built.{AreBuilt}
-use Rattle.circ_nodes.proofs.Numbers.{grows_length, grows_more}
+use Rattle.circ_nodes.proofs.Numbers.{grows_length}
 use Rattle.circ_nodes.proofs.Building.{built_later}
 use Rattle.circ_nodes.proofs.Located.{trees_later}
 use Rattle.circ_shared.specs.Patterns.{goal_at, IsPattern}
@@ -43,12 +44,11 @@ use Rattle.circ_check.specs.declared.checker.Checker.{Checker}
 use Rattle.circ_check.specs.declared.tally.Tally.{Tally}
 use Rattle.circ_check.specs.Checking.{Checking, TakesCertificate, TakesGoals, TakesStep, nothing_taken, made_by, counted, with_one, with_failure, with_derived}
 use Rattle.circ_check.specs.Deciding.{plain_list, Finds, FoundBehave}
-use Rattle.circ_check.specs.Naming.{AreNamedGoals}
 use Rattle.circ_check.specs.Ready.{IsPartReady}
-use Rattle.circ_check.specs.Watching.{failed_of, derived_of, checking_of, StaysIn, KnowsTheory, IsSound, Stands, FitsNext, IsBehindHead, Took, EndsBlock, Notes}
+use Rattle.circ_check.specs.Watching.{failed_of, derived_of, checking_of, StaysIn, KnowsTheory, IsSound, Stands, FitsNext, IsBehindHead, Took, Notes}
 use Rattle.circ_check.proofs.Fitting.{part_ready}
 use Rattle.circ_check.proofs.Finding.{part_more, parts_taken, failed_early, step_makes}
-use Rattle.circ_check.proofs.Numbered.{take_whole, map_taken, all_both, base_grows, base_stays, stays_later, knows_later, all_stays, all_known, checking_moved}
+use Rattle.circ_check.proofs.Numbered.{take_whole, map_taken, all_both, base_grows, base_stays, knows_later, all_stays, checking_moved}
 
 -- ---- before a part
 
@@ -440,4 +440,11 @@ pub found_derived : (th : Theory) (p : Proof) (k : Checker) → ProofFor th p �
 found_derived th p k f s e = elim (parts_taken th p f (checking_of k) s.checking) [
   | inl n ↦ n.derives
   | inr n ↦ absurd (let x = sym e ∙ n.some in cc)
+]
+
+-- of an accepted proof no certificate and no step fails
+pub none_failed : (th : Theory) (p : Proof) (k : Checker) → ProofFor th p → Accepted th p → Stands th (parts_of p) k → failed_of k ≡ None
+none_failed th p k f a s = elim (parts_taken th p f (checking_of k) s.checking) [
+  | inl n ↦ n.none
+  | inr n ↦ absurd (not_both th p n.number a n.first)
 ]

@@ -4,10 +4,6 @@ use Rattle.std.specs.List.{Contains}
 use Rattle.circ_theory.specs.Theory.{Theory}
 use Rattle.circ_theory.specs.Experiment.{Behaves}
 use Rattle.circ_theory.specs.Goal.{Goal}
-use Rattle.circ_term.specs.Tree.{Tree}
-use Rattle.circ_special.specs.declared.place.Place.{Place}
-use Rattle.circ_proof.specs.Runs.{FailsFirst}
-use Rattle.circ_proof.specs.Rules.{State, ProofStep, StepOf, StepsOf}
 use Rattle.circ_proof.specs.Proof.{Block, Proof}
 use Rattle.circ_proof.specs.Accepted.{Accepted, FirstFail}
 use Rattle.circ_check.specs.declared.checking.Verdict.{Verdict}
@@ -42,8 +38,3 @@ DerivedBehave th dss = (ds : List Goal) → Contains dss ds → (g : Goal) → C
 
 abbrev pub plain_list : {A : Type 0} → Vec Goal A → List Goal
 plain_list gs = gs.items
-
--- the steps lead from a to b, or step n, counted from 1, is the first that is no instance of its rule
-abbrev pub RunsOrFails : Theory → List Place → List (ProofStep Tree) → (a b : State) → Option ℕ → Type 0
-RunsOrFails th G ss a b None = StepsOf th G ss a b
-RunsOrFails th G ss a b (Some n) = FailsFirst (StepOf th G) ss a n

@@ -1,5 +1,4 @@
 pub mod Deciding
-pub mod Knowing
 pub mod Naming
 pub mod Checking
 pub mod Ready

@@ -3,9 +3,11 @@ use Rattle.std.specs.Prelude.{◌≡◌, ◌≢◌, ◌≤◌, ◌<◌, ℕ, Boo
 use Rattle.std.specs.List.{AllByRecursion}
 use Rattle.circ_term.specs.Tree.{Tree}
 use Rattle.circ_theory.specs.Theory.{Theory, goal_of}
+use Rattle.circ_theory.specs.WellFormed.{IsWellFormed}
 use Rattle.circ_theory.specs.Goal.{Goal}
 use Rattle.circ_proof.specs.Rules.{IsSortedState}
-use Rattle.circ_proof.specs.Parts.{Part, Head, Certificate, Goals, Step}
+use Rattle.circ_proof.specs.Proof.{Proof, ProofFor}
+use Rattle.circ_proof.specs.Parts.{Part, Head, Certificate, Goals, Step, parts_of}
 use Rattle.circ_proof.specs.Fitting.{Fit}
 use Rattle.circ_rules.specs.Due.{due_after}
 use Rattle.circ_nodes.specs.Named.{tree_at}
@@ -72,6 +74,14 @@ pub record Stands (th : Theory) (xs : List Part) (k : Checker) : Type 0 where
   pub sound : IsSound th k
   pub begun : xs ≢ [] → k.is_begun ≡ true
   pub checking : StandFor th xs (checking_of k)
+
+-- It has taken all parts of a proof that fits but these, which come last.
+pub record HasLeft (th : Theory) (p : Proof) (ys : List Part) (k : Checker) : Type 0 where
+  pub theory : IsWellFormed th
+  pub fits : ProofFor th p
+  pub taken : List Part
+  pub all : parts_of p ≡ taken ++ ys
+  pub stands : Stands th taken k
 
 -- the part fits behind those that were taken
 abbrev pub FitsNext : Part → Checker → Type 0

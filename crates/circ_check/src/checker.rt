@@ -25,6 +25,8 @@ ghost use Rattle.circ_check.specs.Watching.{failed_of, derived_of, checking_of, 
 ghost use Rattle.circ_check.specs.Watching.{Stands, FitsNext, IsSound, IsAsBefore};
 ghost use Rattle.circ_check.specs.Watching.{IsBehindHead, KnowsTheory, EndsBlock, Took, Notes};
 
+mod whole;
+
 use crate::making::made_by;
 use crate::naming::put_goals;
 use crate::tally::Tally;

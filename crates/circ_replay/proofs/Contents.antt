@@ -9,10 +9,6 @@ use Rattle.circ_replay.specs.Following.{Follows}
 use Rattle.circ_replay.specs.Rewriting.{GivesReplaced}
 
 module _ (c : Setting) (op : ℕ) (path : List ℕ) (new t : Tree) where
-  -- the path leaves the term
-  pub content_nowhere : at t path ≡ None → Follows c (Content_link op path new) t None
-  content_nowhere e u r = absurd (let z = sym e ∙ r.replaces.there in cc)
-
   -- what stands there has other content
   pub content_other : (old : Tree) → at t path ≡ Some old → (HasContentOf c.theory.signature op old new → ⊥) → Follows c (Content_link op path new) t None
   content_other old e h u r =

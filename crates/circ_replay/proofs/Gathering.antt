@@ -11,8 +11,7 @@ use Rattle.std.proofs.lemmas.Bool.Decides.{nat_tests}
 use Rattle.circ_term.specs.Tree.{Tree, Trees, Var, App, none, more, is_ground, are_ground}
 use Rattle.circ_theory.specs.Theory.{Pair}
 use Rattle.circ_theory.specs.Variables.{Variable, is_variable, is_before, put_in_order, sorted, seen, seen_in, seen_in_all, seen_in_pairs}
-use Rattle.circ_replay.specs.declared.variables.Variable.{Variable as Kept}
-use Rattle.circ_replay.specs.Gathering.{variable_of, variable_cmp, gathered, gathered_all, gathered_pairs}
+use Rattle.circ_replay.specs.Gathering.{variable_cmp, gathered, gathered_all, gathered_pairs}
 
 -- ---- the order of variables
 
@@ -149,8 +148,6 @@ gathered_pairs_seen (p ∷ ps) vs =
     ap (λ us. gathered_pairs ps (gathered p.right us)) (gathered_seen p.left vs)
     ∙ ap (gathered_pairs ps) (gathered_seen p.right (seen_in p.left vs)) ∙ gathered_pairs_seen ps (seen_in p.right (seen_in p.left vs))
 
--- ---- what the code does
-
 -- a term with no variable has none to gather
 mutual
   pub gathered_ground : (t : Tree) (vs : List Variable) → is_ground t ≡ true → gathered t vs ≡ vs
@@ -162,16 +159,3 @@ mutual
   gathered_all_ground (more t ts) vs e =
       let both = and_parts (is_ground t) (are_ground ts) e in
       ap (gathered_all ts) (gathered_ground t vs both.0) ∙ gathered_all_ground ts vs both.1
-
--- a variable that is inserted is one that is entered
-pub inserted : (ks : List Kept) (k : Kept)
-    → map variable_of (insert_key (λ a b. variable_cmp (variable_of a) (variable_of b)) ks k) ≡ entered (variable_of k) (map variable_of ks)
-inserted [] k = refl
-inserted (x ∷ ks) k = go (inserted ks k) (variable_cmp (variable_of k) (variable_of x))
-  where
-    go : map variable_of (insert_key (λ a b. variable_cmp (variable_of a) (variable_of b)) ks k) ≡ entered (variable_of k) (map variable_of ks) → (o : Ordering)
-        → map variable_of (match_ordering o (k ∷ x ∷ ks) (x ∷ ks) (x ∷ insert_key (λ a b. variable_cmp (variable_of a) (variable_of b)) ks k))
-        ≡ match_ordering o (variable_of k ∷ map variable_of (x ∷ ks)) (map variable_of (x ∷ ks)) (variable_of x ∷ entered (variable_of k) (map variable_of ks))
-    go ih Less = refl
-    go ih Equal = refl
-    go ih Greater = ap (λ us. variable_of x ∷ us) ih

@@ -11,11 +11,10 @@ use Rattle.circ_proof.specs.declared.links.Chain.{Chain}
 use Rattle.circ_proof.specs.Plain.{LinkOf, LinksOf, ChainsOf, ChainOf, Equation_link, Hypothesis_link, Assumption_link, Content_link, Same_why}
 use Rattle.circ_proof.specs.Plain.{map_link, map_row, map_chains, row_of, chains_in, plain_link, plain_links, plain_chain, plain_chains}
 use Rattle.circ_proof.specs.Nesting.{link_nesting, links_nesting, chain_nesting, chains_nesting}
-use Rattle.circ_proof.specs.Link.{Setting, Leads, AllOfLink, AllOfChains, resolved_chain}
+use Rattle.circ_proof.specs.Link.{Setting, AllOfLink, AllOfChains, resolved_chain}
 use Rattle.circ_proof.specs.Justified.{Justified, AllOfChain}
 use Rattle.circ_proof.proofs.LinkRows.{row_runs, row_mapped, all_of_row, row_depth}
-use Rattle.circ_replay.specs.Usage.{Meets, AllMeet, Uses}
-use Rattle.circ_replay.specs.declared.usage.Use.{Use}
+use Rattle.circ_replay.specs.Usage.{Meets, AllMeet}
 
 -- the pair is the same by the chain exactly where its sides meet
 meets_same : (c : Setting) (table : List Tree) (chain : ChainOf ℕ) (p : Pair)
@@ -51,14 +50,6 @@ meet_parts c table ps cs i p chain h e k f =
       (λ m. subst P (sym a) (subst Q (sym b) (same.1 m.0, m.1))),
     )
 
--- there are as many pairs as chains
-pub meet_counted : (c : Setting) (f : ℕ → Tree) (ps : List PairOfTerms) (cs : List (Chain ℕ)) → AllMeet c (map plain_pair ps) (map_chains f (plain_chains cs))
-    → length ps ≡ length cs
-meet_counted c f [] [] m = refl
-meet_counted c f [] (d ∷ cs) m = absurd m
-meet_counted c f (p ∷ ps) [] m = absurd m
-meet_counted c f (p ∷ ps) (d ∷ cs) m = ap suc (meet_counted c f ps cs m.1)
-
 -- a property of the terms of all chains is one of each
 pub each_chain : (P : ℕ → Type 0) (cs : List (Chain ℕ)) (i : ℕ) (d : Chain ℕ) → AllOfChains P (plain_chains cs) → i < length cs → d ≡ get_or cs i d
     → AllOfChain P (plain_chain d)
@@ -87,15 +78,6 @@ chains_depth (Equation_link number way path terms conds) = refl
 chains_depth (Hypothesis_link number way path terms conds) = refl
 chains_depth (Assumption_link number way path) = refl
 chains_depth (Content_link op path term) = refl
-
--- a link leads where its chains let its pairs meet, and else nowhere
-pub use_leads : (c : Setting) (l : LinkOf Tree) (t : Tree) (x : Use) (cs : ChainsOf Tree) → cs ≡ chains_in l → Uses c l t (Some x) → AllMeet c x.conds cs
-    → Leads c l t x.term
-use_leads c l t x cs e h m = let P : ChainsOf Tree → Type 0 = AllMeet c x.conds in h.leads (subst P e m)
-
-pub use_stuck : (c : Setting) (l : LinkOf Tree) (t : Tree) (x : Use) (cs : ChainsOf Tree) → cs ≡ chains_in l → Uses c l t (Some x)
-    → (AllMeet c x.conds cs → ⊥) → (u : Tree) → Leads c l t u → ⊥
-use_stuck c l t x cs e h n u r = let P : ChainsOf Tree → Type 0 = AllMeet c x.conds in n (subst P (sym e) (h.only u r))
 
 -- ---- how deep
 

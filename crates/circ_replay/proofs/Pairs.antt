@@ -1,14 +1,12 @@
 -- What following a link of an equation or a hypothesis does is what the link says.
-use Rattle.std.proofs.Common.{◌≡◌, ℕ, List, [], ◌∷◌, map, Option, Some, None, Result, Ok, Err, IfOk, ap, sym, subst, ◌∙◌}
+use Rattle.std.proofs.Common.{◌≡◌, ℕ, List, [], ◌∷◌, map, Option, Some, None, Result, Ok, Err, IfOk, sym, subst, ◌∙◌}
 use Rattle.std.specs.List.{slice_get}
 use Rattle.std.specs.Option.{option_map}
 use Rattle.std.proofs.lemmas.Option.{same_Some}
 use Rattle.circ_term.specs.Tree.{Tree, sort_of}
 use Rattle.circ_term.specs.Substitution.{Substitution}
-use Rattle.circ_term.specs.Subst.{Bound, substitution_of}
-use Rattle.circ_theory.specs.Theory.{Pair, sides, goal_of, instance_pair, IsHidden}
-use Rattle.circ_theory.specs.Variables.{Variable, variables_of, sorted, FitVariables, given}
-use Rattle.circ_theory.specs.Rewriting.{from_side, to_side, by_terms, RewritesBy}
+use Rattle.circ_theory.specs.Theory.{Pair, goal_of, instance_pair, IsHidden}
+use Rattle.circ_theory.specs.Rewriting.{by_terms, RewritesBy}
 use Rattle.circ_theory.specs.Goal.{Equation}
 use Rattle.circ_theory.specs.Goal.{Goal}
 use Rattle.circ_theory.specs.declared.way.Way.{Way}
@@ -16,9 +14,8 @@ use Rattle.circ_special.specs.Special.{IsSpecial}
 use Rattle.circ_proof.specs.Plain.{LinkOf, ChainsOf, Equation_link, Hypothesis_link, no_chain, more_chains, chains_in}
 use Rattle.circ_proof.specs.Link.{Setting, EquationLeads, ConditionsLead}
 use Rattle.circ_replay.specs.Following.{Follows}
-use Rattle.circ_replay.specs.Rewriting.{AreWithin, GivesSubst}
-use Rattle.circ_replay.specs.Usage.{AllMeet, Uses, GivesUse, unconditional}
-use Rattle.circ_replay.specs.declared.usage.Use.{Use}
+use Rattle.circ_replay.specs.Rewriting.{AreWithin}
+use Rattle.circ_replay.specs.Usage.{Use, AllMeet, Uses, unconditional}
 
 -- ---- conditions
 
@@ -59,39 +56,7 @@ GivesRewriting g way path terms t None = (u : Tree) → RewritesBy g way path te
 GivesRewriting g way path terms t (Some x) =
     RewritesBy g way path terms t x.term × AreWithin (by_terms g terms) g.conds × (x.conds ≡ map (instance_pair (by_terms g terms)) g.conds)
 
--- no term comes of terms that do not fit
-pub unfit_rewriting : (g : Goal) (vs : List Variable) (way : Way) (path : List ℕ) (terms : List Tree) (t u : Tree) → vs ≡ sorted (variables_of g)
-    → (FitVariables vs terms → ⊥) → RewritesBy g way path terms t u → ⊥
-unfit_rewriting g vs way path terms t u e unfit r = let P : List Variable → Type 0 = λ ws. FitVariables ws terms in unfit (subst P (sym e) r.fit)
-
--- a rewriting under a substitution that gives the variables these terms
-pub gives_rewriting : {E : Type 0} (g : Goal) (vs : List Variable) (way : Way) (path : List ℕ) (terms : List Tree) (σ : List Bound) (t : Tree)
-    → vs ≡ sorted (variables_of g) → GivesSubst vs terms (Some σ) → (r : Result (Option Use) E)
-    → IfOk r (GivesUse (substitution_of σ) (from_side way (sides g)) (to_side way (sides g)) g.conds path t)
-    → IfOk r (GivesRewriting g way path terms t)
-gives_rewriting {E = E} g vs way path terms σ t e gives r h =
-    let same : substitution_of σ ≡ by_terms g terms = (λ i n s. gives.1 n s i) ∙ ap (λ ws. given ws terms) e in
-    let P : Substitution → Type 0 = λ τ. IfOk r (GivesUse τ (from_side way (sides g)) (to_side way (sides g)) g.conds path t) in
-    go r (subst P same h)
-  where
-    fit : FitVariables (sorted (variables_of g)) terms
-    fit = let P : List Variable → Type 0 = λ ws. FitVariables ws terms in subst P e gives.0
-
-    go : (r : Result (Option Use) E) → IfOk r (GivesUse (by_terms g terms) (from_side way (sides g)) (to_side way (sides g)) g.conds path t)
-        → IfOk r (GivesRewriting g way path terms t)
-    go (Err f) h = tt
-    go (Ok (Some x)) h = (record { fit = fit; replaces = h.0 }, h.1, h.2)
-    go (Ok None) h = λ u r w. h u r.replaces w
-
 -- ---- equations
-
-pub equation_unfit : (c : Setting) (number : ℕ) (e : Equation) (vs : List Variable) (way : Way) (path : List ℕ) (terms : List Tree) (t u : Tree)
-    → Some e ≡ slice_get c.theory.equations number → vs ≡ sorted (variables_of (goal_of e)) → (FitVariables vs terms → ⊥)
-    → EquationLeads c number way path terms t u → ⊥
-equation_unfit c number e vs way path terms t u there same unfit r =
-    let it : r.equation ≡ e = same_Some r.equation e (sym r.listed ∙ sym there) in
-    let P : Equation → Type 0 = λ d. RewritesBy (goal_of d) way path terms t u in
-    unfit_rewriting (goal_of e) vs way path terms t u same unfit (subst P it r.rewrites)
 
 pub equation_uses : {E : Type 0} (c : Setting) (number : ℕ) (e : Equation) (way : Way) (path : List ℕ) (terms : List Tree) (t : Tree) (cs : ChainsOf Tree)
     → Some e ≡ slice_get c.theory.equations number → (r : Result (Option Use) E) → IfOk r (GivesRewriting (goal_of e) way path terms t)

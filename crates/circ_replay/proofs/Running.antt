@@ -49,16 +49,3 @@ each_link P (x ∷ ls) (suc i) l a h e = each_link P ls i l a.1 (omega arith) e
 
 pub links_end : (table : List Tree) (ls : List (Link ℕ)) (i : ℕ) → length ls ≤ i → links_from table ls i ≡ []
 links_end table ls i h = ap (λ xs. resolved_links table (plain_links xs)) (drop_all i ls h)
-
--- what holds of each term that a link leads to holds of the term that following it gives; and so for links
-pub if_follows : {E : Type 0} (P : Tree → Type 0) (c : Setting) (l : LinkOf Tree) (t : Tree) (r : Result (Option Tree) E)
-    → IfOk r (Follows c l t) → ((u : Tree) → Leads c l t u → P u) → IfOk r (λ o. IfSome o P)
-if_follows P c l t (Ok None) f h = tt
-if_follows P c l t (Ok (Some u)) f h = h u f
-if_follows P c l t (Err e) f h = tt
-
-pub if_follows_all : {E : Type 0} (P : Tree → Type 0) (c : Setting) (ls : List (LinkOf Tree)) (t : Tree) (r : Result (Option Tree) E)
-    → IfOk r (FollowsAll c ls t) → ((u : Tree) → Runs (Leads c) ls t u → P u) → IfOk r (λ o. IfSome o P)
-if_follows_all P c ls t (Ok None) f h = tt
-if_follows_all P c ls t (Ok (Some u)) f h = h u f
-if_follows_all P c ls t (Err e) f h = tt

@@ -3,9 +3,7 @@ use Rattle.std.specs.Prelude.{◌≡◌, ℕ, List, [], ◌∷◌, map, Option, 
 use Rattle.circ_term.specs.Tree.{Tree, replaced}
 use Rattle.circ_term.specs.Limits.{IsWithinLimits}
 use Rattle.circ_term.specs.Substitution.{Substitution, instance}
-use Rattle.circ_term.specs.Subst.{Bound, substitution_of}
 use Rattle.circ_theory.specs.Theory.{Pair, instance_pair}
-use Rattle.circ_theory.specs.Variables.{Variable, FitVariables, given}
 use Rattle.circ_theory.specs.Rewriting.{Replaces}
 
 -- the instance of t, or that it passes a limit
@@ -32,8 +30,3 @@ GivesReplaced t path new (Some u) = (replaced t path new ≡ Some u) × IsWithin
 abbrev pub GivesExchange : Tree → (path : List ℕ) → (old new : Tree) → Option Tree → Type 0
 GivesExchange t path old new None = (u : Tree) → Replaces t path old new u → ⊥
 GivesExchange t path old new (Some u) = Replaces t path old new u
-
--- the substitution that gives the variables these terms, or that a term has another sort or the counts differ
-abbrev pub GivesSubst : List Variable → List Tree → Option (List Bound) → Type 0
-GivesSubst vs ts None = FitVariables vs ts → ⊥
-GivesSubst vs ts (Some σ) = FitVariables vs ts × ((n s : ℕ) → substitution_of σ n s ≡ given vs ts n s)

@@ -1,13 +1,9 @@
 -- A link by itself: what it leads to, and which terms its conditions ask to lead to one.
-use Rattle.std.specs.Prelude.{◌≡◌, ℕ, List, [], ◌∷◌, map, Option, Some, None}
+use Rattle.std.specs.Prelude.{List, [], ◌∷◌, Option, Some, None}
 use Rattle.circ_term.specs.Tree.{Tree}
-use Rattle.circ_term.specs.Substitution.{Substitution, instance}
-use Rattle.circ_theory.specs.Theory.{Pair, instance_pair}
-use Rattle.circ_theory.specs.Rewriting.{Replaces}
+use Rattle.circ_theory.specs.Theory.{Pair}
 use Rattle.circ_proof.specs.Plain.{LinkOf, LinksOf, ChainsOf, no_chain, more_chains, chains_in}
 use Rattle.circ_proof.specs.Link.{Setting, Leads, RowLeads}
-use Rattle.circ_replay.specs.Rewriting.{AreWithin}
-use Rattle.circ_replay.specs.declared.usage.Use.{Use}
 
 -- the sides of the pair lead to one term
 abbrev pub Meets : Setting → (left right : LinksOf Tree) → Pair → Type 0
@@ -25,6 +21,11 @@ pub record IsUse (c : Setting) (l : LinkOf Tree) (t u : Tree) (pairs : List Pair
   pub leads : AllMeet c pairs (chains_in l) → Leads c l t u
   pub only : (v : Tree) → Leads c l t v → AllMeet c pairs (chains_in l)
 
+-- a term to which a link leads where the sides of these pairs lead to one term
+pub record Use : Type 0 where
+  pub term : Tree
+  pub conds : List Pair
+
 -- what the link leads to and its pairs, or that it leads nowhere
 abbrev pub Uses : Setting → LinkOf Tree → Tree → Option Use → Type 0
 Uses c l t None = (u : Tree) → Leads c l t u → ⊥
@@ -33,9 +34,3 @@ Uses c l t (Some x) = IsUse c l t x.term x.conds
 -- a term to which a link without conditions leads
 abbrev pub unconditional : Tree → Use
 unconditional t = record { term = t; conds = [] }
-
--- One term replaces another, both under the substitution, with the conditions under it, or that is within no limits or not there.
-abbrev pub GivesUse : Substitution → (from to : Tree) → (conds : List Pair) → (path : List ℕ) → Tree → Option Use → Type 0
-GivesUse σ from to E path t None = (u : Tree) → Replaces t path (instance σ from) (instance σ to) u → AreWithin σ E → ⊥
-GivesUse σ from to E path t (Some x) =
-    Replaces t path (instance σ from) (instance σ to) x.term × AreWithin σ E × (x.conds ≡ map (instance_pair σ) E)

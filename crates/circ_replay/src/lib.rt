@@ -1,20 +1,10 @@
-//! Recorded rewriting, followed: where the links of a proof lead, and whether a goal holds by its
-//! recorded reason.
+//! The table of a proof that is written, and the words for what recorded rewriting leads to.
 //!
-//! [`follow`] gives the term that a link leads to, [`follow_all`] goes through links one after
-//! another, and [`follow_why`] decides whether a reason justifies a goal, in each case of its
-//! splits. What they answer is defined in circ_proof (`Leads`, `Justified`). [`TableBuilder`] makes
-//! the table whose numbers stand in links for terms; it is seen as the list of its terms.
+//! [`TableBuilder`] makes the table whose numbers stand in links for terms; it is seen as the list
+//! of its terms. What following a link, links one after another or a chain answers (`Follows`,
+//! `FollowsAll`, `FollowsChain`) stands in specs/; circ_shared follows them by numbers of terms.
 #![tactic(auto)]
 
-mod following;
-mod justifying;
-mod rewriting;
-mod substitution;
 mod table;
-mod usage;
-mod variables;
 
-pub use following::{follow, follow_all};
-pub use justifying::follow_why;
 pub use table::TableBuilder;

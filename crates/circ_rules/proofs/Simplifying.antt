@@ -30,25 +30,8 @@ none_simplifies th G chain H (g ∷ gs) first e none b r =
     let P : Goal → Type 0 = λ x. ChainLeads (Leads (setting th G H x.conds)) chain (sides x) r.0 in
     none r.0 (subst P (sym e) r.1)
 
-pub put_sorted : (th : Theory) (H gs : List Goal) (q : Pair) → IsWellSortedPair th.signature q → IsSortedState th (state H gs)
-    → IsSortedState th (put_sides_on H gs q)
-put_sorted th H [] q w a = a
-put_sorted th H (g ∷ gs) q w a =
-    let f = sorted_first th g gs a.1 in
-    (a.0, sorted_more th (goal g.conds q.left q.right) gs (record { sorted = w; conds = f.conds }) (sorted_rest th g gs a.1))
-
--- the first goal with these sides, as it is written in its place
-pub put_in_place : (H gs : List Goal) (first : Goal) (q : Pair) → 0 < length gs → first ≡ get_or gs 0 first
-    → state H (slice_set gs 0 (goal first.conds q.left q.right)) ≡ put_sides_on H gs q
-put_in_place H [] first q h e = absurd (omega arith)
-put_in_place H (g ∷ gs) first q h e = ap (λ x. state H (goal x.conds q.left q.right ∷ gs)) e
-
 -- the first of well-sorted goals, and those behind it
 
 pub front_sorted : (th : Theory) (gs : List Goal) (first : Goal) → 0 < length gs → first ≡ get_or gs 0 first → AreSortedGoals th gs → IsWellSortedGoal th first
 front_sorted th [] first h e a = absurd (omega arith)
 front_sorted th (g ∷ gs) first h e a = let P : Goal → Type 0 = IsWellSortedGoal th in subst P (sym e) (sorted_first th g gs a)
-
-pub dropped_sorted : (th : Theory) (gs : List Goal) → AreSortedGoals th gs → AreSortedGoals th (drop 1 gs)
-dropped_sorted th [] a = a
-dropped_sorted th (g ∷ gs) a = sorted_rest th g gs a

@@ -3,11 +3,7 @@ use Rattle.std.specs.Prelude.{◌≡◌, List, Bool, true, false, Option, Some, 
 use Rattle.circ_term.specs.Tree.{Tree}
 use Rattle.circ_theory.specs.Theory.{Theory}
 use Rattle.circ_special.specs.declared.place.Place.{Place}
-use Rattle.circ_proof.specs.Plain.{LinkOf}
 use Rattle.circ_proof.specs.Rules.{State, ProofStep, StepOf}
-use Rattle.circ_proof.specs.Certified.{due, AreCertified, CertificateFails}
-use Rattle.circ_rules.specs.declared.admitting.Admission.{Admission}
-use Rattle.circ_rules.specs.declared.admitting.Admission.TheVariants as admission
 
 -- the one that has the property, or that there is none
 abbrev pub Gives : {X : Type 0} → (X → Type 0) → Option X → Type 0
@@ -18,8 +14,3 @@ Gives P (Some x) = P x
 abbrev pub Applies : Theory → List Place → ProofStep Tree → (a b : State) → Bool → Type 0
 Applies th G step a b true = StepOf th G step a b
 Applies th G step a b false = ((c : State) → StepOf th G step a c → ⊥) × (b ≡ a)
-
--- each certificate certifies what is due, or this is the first that does not
-abbrev pub Admits : Theory → List Place → List (List (LinkOf Tree)) → Admission → Type 0
-Admits th G lss admission.Yes = AreCertified th G (due th G) lss
-Admits th G lss (admission.No n) = CertificateFails th G (due th G) lss n

@@ -1,26 +1,20 @@
-//! Certificates, and the terms at which they start.
-ghost use Rattle.std.specs.Prelude.{◌≡◌, ◌≤◌, ◌<◌, ◌+◌, ◌↔◌, Some, []};
-ghost use Rattle.std.specs.Prelude.{IsTrue, length, map, IfOk};
-ghost use Rattle.std.specs.List.{AllByRecursion, slice_get};
+//! The terms at which certificates start.
+ghost use Rattle.std.specs.Prelude.{◌≡◌, ◌≤◌, Some, length, IfOk};
+ghost use Rattle.std.specs.List.{slice_get};
 ghost use Rattle.std.specs.Option.{IfSome, option_map};
 ghost use Rattle.circ_term.specs.Tree.{App, trees_of};
+ghost use Rattle.circ_theory.specs.Experiment.{derived};
+ghost use Rattle.circ_theory.specs.Fresh.{given_parameters, FitSome};
 ghost use Rattle.circ_theory.specs.Limits.{argument_limit};
 ghost use Rattle.circ_theory.specs.Operators.{operator_of};
 ghost use Rattle.circ_theory.specs.Signature.{IsWellSorted};
-ghost use Rattle.circ_proof.specs.Plain.{plain_links};
-ghost use Rattle.circ_proof.specs.Link.{AllOfLinks};
 ghost use Rattle.circ_special.specs.Special.{IsPlace};
-ghost use Rattle.circ_proof.specs.Certified.{Certified, start_args, start_term, due_at};
-ghost use Rattle.circ_proof.specs.PlainProof.{plain_certificates};
-ghost use Rattle.circ_rules.specs.Basis.{IsSortedBasis, links_of, certificates_in};
+ghost use Rattle.circ_proof.specs.Certified.{start_args, start_term};
 ghost use Rattle.circ_rules.specs.Answers.{Gives};
 ghost use Rattle.circ_rules.specs.Deriving.{IsBuilt};
-ghost use Rattle.circ_rules.specs.Admitting.{IsStartOf, IsStart, AdmitsAt};
+ghost use Rattle.circ_rules.specs.Admitting.{IsStartOf, IsStart};
 
-use crate::basis::Basis;
-use crate::derive_step::instance;
-use circ_proof::Link;
-use circ_special::{Place, guarded};
+use circ_special::Place;
 use circ_term::{Term, TermFault};
 use circ_theory::{OpDecl, Theory, variables_from};
 use std::alloc::{AllocError, Global};
@@ -117,83 +111,26 @@ pub fn start_term(
         return Ok(None);
     };
     let params = variables_from(alloc, start.decl.args.len() as u64, sorts)?;
-    instance(alloc, theory, derivative, params.as_slice(), &start.term)
+    instance(theory, derivative, params.as_slice(), &start.term)
 }
 
-impl Basis<'_> {
-    // Whether the links are a certificate of the place and the derivative of this number.
-    pub(crate) fn certifies(
-        &self,
-        start: &Start<'_>,
-        derivative: u32,
-        links: &[Link],
-    ) -> Result<bool, AllocError>
-        requires basis_sorted { IsSortedBasis self.now }
-        requires in_table { AllOfLinks (λ n. n < length self.now.table.now)
-            (plain_links links.now) }
-        requires start { IsStart self.now.theory.now start.now }
-        requires hole { option_map (λ d. d.hole)
-            (slice_get self.now.theory.now.derivatives derivative) ≡
-            Some start.now.decl.now.result }
-        ensures { IfSome (slice_get self.now.theory.now.derivatives derivative) (λ d. IfOk result
-            (λ b. IsTrue b ↔ Certified self.now.theory.now self.now.gamma.now
-            start.now.place d (links_of self.now links.now))) }
-    {
-        let Some(first) = start_term(self.alloc, self.theory, start, derivative)? else {
-            return Ok(false);
-        };
-        let Some(last) = self.follow_all(&[], &[], links, &first)? else {
-            return Ok(false);
-        };
-        Ok(guarded(self.theory, self.gamma, &last, 0, start.sort))
-    }
-
-    // Whether the certificates of the place hold, the first of which stands behind `done` others.
-    // Those that hold are counted.
-    pub(crate) fn admit_place(
-        &self,
-        place: Place,
-        certificates: &[Vec<Link>],
-        done: &mut usize,
-    ) -> Result<bool, AllocError>
-        requires basis_sorted { IsSortedBasis self.now }
-        requires in_table { AllByRecursion (AllOfLinks (λ n. n < length self.now.table.now))
-            (plain_certificates certificates.now) }
-        requires place { IsPlace self.now.theory.now place }
-        requires enough { done.old + length (due_at self.now.theory.now place) ≤
-            length certificates.now }
-        ensures { IfOk result (AdmitsAt self.now.theory.now self.now.gamma.now place
-            (certificates_in self.now certificates.now) done.old done.new) }
-    {
-        let start = start_at(self.alloc, self.theory, place)?;
-        self.admit_start(&start, certificates, done)
-    }
-
-    // The same for the place of a start.
-    fn admit_start(
-        &self,
-        start: &Start<'_>,
-        certificates: &[Vec<Link>],
-        done: &mut usize,
-    ) -> Result<bool, AllocError>
-        requires basis_sorted { IsSortedBasis self.now }
-        requires in_table { AllByRecursion (AllOfLinks (λ n. n < length self.now.table.now))
-            (plain_certificates certificates.now) }
-        requires start { IsStart self.now.theory.now start.now }
-        requires enough { done.old + length (due_at self.now.theory.now start.now.place) ≤
-            length certificates.now }
-        ensures { IfOk result (AdmitsAt self.now.theory.now self.now.gamma.now start.now.place
-            (certificates_in self.now certificates.now) done.old done.new) }
-    {
-        for derivative in 0..self.theory.derivative_count() {
-            if self.theory.takes(derivative, start.decl.result) {
-                let links = certificates[*done].as_slice();
-                if !self.certifies(start, derivative, links)? {
-                    return Ok(false);
-                }
-                *done += 1;
-            }
-        }
-        Ok(true)
+// The derivative of this number on a term, with the terms of `params` for its parameters. None
+// where that passes a limit.
+fn instance(
+    theory: &Theory,
+    derivative: u32,
+    params: &[Term],
+    term: &Term,
+) -> Result<Option<Term>, AllocError>
+    requires { FitSome (slice_get theory.now.derivatives derivative) params.now term.now }
+    ensures { IfSome (slice_get theory.now.derivatives derivative)
+        (λ d. IfOk result
+        (Gives (IsBuilt (derived d term.now (given_parameters params.now))))) }
+{
+    match theory.instance(derivative, params, term) {
+        Ok(made) => Ok(Some(made)),
+        Err(TermFault::TooBig { .. }) => Ok(None),
+        Err(TermFault::TooDeep { .. }) => Ok(None),
+        Err(TermFault::Memory) => Err(AllocError),
     }
 }

@@ -1,18 +1,24 @@
-use Rattle.std.proofs.Common.{length, inl}
-use Rattle.circ_proof.specs.PlainProof.{plain_proof, plain_certificates}
-use Rattle.circ_soundness.proofs.Resolving.{certificates_in_table}
-use Rattle.circ_check.proofs.Behaving.{decided_behave}
+use Rattle.std.proofs.Common.{sym, subst, [], IfOk}
+use Rattle.circ_theory.specs.Theory.{Theory}
+use Rattle.circ_proof.specs.PlainProof.{plain_proof}
+use Rattle.circ_proof.specs.Proof.{ProofFor}
+use Rattle.circ_check.specs.Deciding.{Decides, GoalsBehave}
+use Rattle.circ_check.specs.Watching.{Stands}
 use Rattle.circ_check.proofs.checking.check.Goals as goal
 
-pub admit-requires-clause-in_table : goal.admit-requires-clause-in_table
-admit-requires-clause-in_table c =
-    let p = c.args.proof.now in
-    rw (c.as_slice.ensures.value, c.as_slice-certificates.ensures.value)
-    (certificates_in_table (length p.table.items) (plain_certificates p.certificates.items) c.requires.certificates)
+pub judged-requires-clause-fits : goal.judged-requires-clause-fits
+judged-requires-clause-fits c =
+    let P : Theory → Type 0 = λ th. ProofFor th (plain_proof c.args.proof.now) in subst P (sym c.new-checker.ensures.sound.theory) c.requires
 
-pub returns-in-Yes-clause-sound : goal.returns-in-Yes-clause-sound
-returns-in-Yes-clause-sound c =
-    decided_behave c.args.theory.now c.known.ensures (plain_proof c.args.proof.now) c.requires c.check_blocks.result c.check_blocks.ensures
+pub judged-requires-clause-start : goal.judged-requires-clause-start
+judged-requires-clause-start c =
+    let P : Theory → Type 0 = λ th. Stands th [] c.new-checker.result in subst P (sym c.new-checker.ensures.sound.theory) c.new-checker.ensures
 
-pub returns-in-No-clause-exact : goal.returns-in-No-clause-exact
-returns-in-No-clause-exact c = inl (rw (c.in-No.is, c.as_slice.ensures.value, c.as_slice-certificates.ensures.value) at c.in_ok-admit.ensures)
+pub returns-clause-exact : goal.returns-clause-exact
+returns-clause-exact c =
+    let P : Theory → Type 0 = λ th. IfOk c.judged.result (Decides th (plain_proof c.args.proof.now)) in subst P c.new-checker.ensures.sound.theory c.judged.ensures.exact
+
+pub returns-clause-sound : goal.returns-clause-sound
+returns-clause-sound c =
+    let P : Theory → Type 0 = λ th. IfOk c.judged.result (GoalsBehave th (plain_proof c.args.proof.now)) in
+    subst P c.new-checker.ensures.sound.theory c.judged.ensures.sound

@@ -1,9 +1,4 @@
-use Rattle.std.proofs.Common.{◌≡◌, ap, ◌∙◌}
-use Rattle.std.specs.List.{AllByRecursion}
-use Rattle.circ_nodes.specs.Named.{tree_at}
-use Rattle.circ_theory.specs.Theory.{goal as goal_with}
-use Rattle.circ_shared.specs.Patterns.{pairs_at, goal_at}
-use Rattle.circ_steps.specs.States.{shared_goal}
+use Rattle.std.proofs.Common.{◌∙◌}
 use Rattle.circ_check.proofs.Named.{pattern_seen}
 use Rattle.circ_check.proofs.naming.own_goal.Goals as goal
 

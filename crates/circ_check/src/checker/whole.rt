@@ -1,0 +1,133 @@
+//! A proof that is taken whole.
+ghost use Rattle.std.specs.Prelude.{◌≡◌, ◌<◌, ◌++◌, ◌∷◌, [], List, length, map, OnOk};
+ghost use Rattle.std.specs.List.{AllByRecursion};
+ghost use Rattle.circ_term.specs.Growing.{Grows};
+ghost use Rattle.circ_theory.specs.Theory.{Theory as PlainTheory};
+ghost use Rattle.circ_proof.specs.Proof.{Proof as PlainProof, ProofFor};
+ghost use Rattle.circ_proof.specs.Parts.{Part, Head, parts_of};
+ghost use Rattle.circ_proof.specs.Parts.{certificate_parts, step_parts, block_parts};
+ghost use Rattle.circ_proof.specs.PlainProof.{plain_proof, plain_steps, plain_certificates};
+ghost use Rattle.circ_proof.specs.PlainProof.{plain_block};
+ghost use Rattle.circ_nodes.specs.Named.{tree_at};
+ghost use Rattle.circ_check.specs.Deciding.{plain_list};
+ghost use Rattle.circ_check.specs.Watching.{Stands, IsSound, Took, KnowsTheory, HasLeft};
+ghost use Rattle.circ_check.specs.Watching.{derived_of};
+
+use crate::checker::Checker;
+use circ_entering::enter_terms;
+use circ_proof::{Proof, Step};
+use circ_rules::Due;
+use circ_special::Gamma;
+use circ_steps::{derivatives, equations};
+use circ_theory::Goal;
+use std::alloc::AllocError;
+use std::mem::replace;
+
+impl Checker<'_> {
+    /// Takes all parts of a proof. Costs a look-up for each node of the table's terms, counted as
+    /// trees, and what the parts cost.
+    pub(crate) fn take_proof(&mut self, proof: &Proof) -> Result<(), AllocError>
+        requires fits { ProofFor self.old.theory.now (plain_proof proof.now) }
+        requires start { Stands self.old.theory.now [] self.old }
+        ensures { OnOk result
+            (Stands self.old.theory.now (parts_of (plain_proof proof.now)) self.new) }
+    {
+        self.theory.known();
+        self.begin_proof(proof)?;
+        self.take_certificates(proof)?;
+        self.take_blocks(proof)?;
+        Ok(())
+    }
+
+    /// The goals that were derived, which are no longer kept.
+    pub(crate) fn take_derived(&mut self) -> Vec<Vec<Goal>>
+        ensures { map plain_list result.items ≡ derived_of self.old }
+    {
+        let none = Vec::new(self.alloc);
+        replace(&mut self.derived, none)
+    }
+
+    // The table and the special set.
+    fn begin_proof(&mut self, proof: &Proof) -> Result<(), AllocError>
+        requires fits { ProofFor self.old.theory.now (plain_proof proof.now) }
+        requires sound { IsSound self.old.theory.now self.old }
+        ensures { OnOk result (Took self.old.theory.now
+            (Head proof.now.table.items proof.now.gamma) self.old self.new) }
+    {
+        let places = Vec::from_slice(self.alloc, proof.gamma.places())?;
+        let Some(gamma) = Gamma::of(self.theory, places) else {
+            unreachable!()
+        };
+        self.enter_proof(proof)?;
+        self.gamma = gamma;
+        self.due = Due::all();
+        self.base = self.nodes.len();
+        self.is_begun = true;
+        Ok(())
+    }
+
+    // The theory and the table get numbers.
+    fn enter_proof(&mut self, proof: &Proof) -> Result<(), AllocError>
+        ensures grows { Grows self.old.nodes self.new.nodes }
+        ensures knows { OnOk result (KnowsTheory self.old.theory.now self.new.nodes
+            self.new.equations.items self.new.derivatives.items) }
+        ensures there { OnOk result
+            (AllByRecursion (λ n. n < length self.new.nodes) self.new.table.items) }
+        ensures table { OnOk result (map (tree_at self.new.nodes) self.new.table.items
+            ≡ proof.now.table.items) }
+        ensures others { self.new ≡ record self.old {
+          nodes = self.new.nodes;
+          equations = self.new.equations;
+          derivatives = self.new.derivatives;
+          table = self.new.table;
+        } }
+    {
+        self.equations = equations(self.alloc, self.theory, &mut self.nodes)?;
+        self.derivatives = derivatives(self.alloc, self.theory, &mut self.nodes)?;
+        self.table = enter_terms(self.alloc, &mut self.nodes, proof.table.as_slice())?;
+        Ok(())
+    }
+
+    fn take_certificates(&mut self, proof: &Proof) -> Result<(), AllocError>
+        requires { (th : PlainTheory) × HasLeft th (plain_proof proof.now)
+            (certificate_parts (plain_certificates proof.now.certificates.items)
+            ++ block_parts (map plain_block proof.now.blocks.items)) self.old }
+        ensures { OnOk result ((th : PlainTheory) → HasLeft th (plain_proof proof.now)
+            (certificate_parts (plain_certificates proof.now.certificates.items)
+            ++ block_parts (map plain_block proof.now.blocks.items)) self.old
+            → HasLeft th (plain_proof proof.now)
+            (block_parts (map plain_block proof.now.blocks.items)) self.new) }
+    {
+        for links in &proof.certificates {
+            self.certify(links.as_slice())?;
+        }
+        Ok(())
+    }
+
+    fn take_blocks(&mut self, proof: &Proof) -> Result<(), AllocError>
+        requires { (th : PlainTheory) × HasLeft th (plain_proof proof.now)
+            (block_parts (map plain_block proof.now.blocks.items)) self.old }
+        ensures { OnOk result ((th : PlainTheory) → HasLeft th (plain_proof proof.now)
+            (block_parts (map plain_block proof.now.blocks.items)) self.old
+            → HasLeft th (plain_proof proof.now) [] self.new) }
+    {
+        for block in &proof.blocks {
+            self.begin_block(block.names.as_slice())?;
+            self.take_steps(block.steps.as_slice())?;
+        }
+        Ok(())
+    }
+
+    fn take_steps(&mut self, steps: &[Step]) -> Result<(), AllocError>
+        requires { (th : PlainTheory) × (p : PlainProof) × (ys : List Part) × HasLeft th p
+            (step_parts (plain_steps steps.now) ++ ys) self.old }
+        ensures { OnOk result ((th : PlainTheory) (p : PlainProof) (ys : List Part)
+            → HasLeft th p (step_parts (plain_steps steps.now) ++ ys) self.old
+            → HasLeft th p ys self.new) }
+    {
+        for step in steps {
+            self.take_step(step)?;
+        }
+        Ok(())
+    }
+}

@@ -1,0 +1,13 @@
+//! Terms and goals that get numbers in a table of circ_nodes, and goals that are built of their
+//! numbers again: for whatever is handed terms and does steps by number.
+#![tactic(auto)]
+
+mod building;
+mod entering;
+mod numbered;
+mod work;
+
+pub use building::build_goal;
+pub use entering::{enter_goals, enter_hypotheses, enter_terms};
+pub use numbered::{Numbered, enter_rules};
+pub use work::Work;
