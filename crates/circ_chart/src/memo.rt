@@ -1,5 +1,5 @@
 //! What has been asked of ranges of tokens, with the answers.
-ghost use Rattle.std.specs.Prelude.{◌≡◌, ℕ, List, [], IfOk, OnOk, IsTrue};
+ghost use Rattle.std.specs.Prelude.{◌≡◌, ℕ, List, [], IfOk, OnOk, IsTrue, Some, true};
 ghost use Rattle.std.specs.Option.{option_copied};
 ghost use Rattle.circ_spelling.specs.declared.grammar.Grammar.{Grammar};
 ghost use Rattle.circ_chart.specs.declared.few.Few.TheVariants.{Empty};
@@ -195,18 +195,19 @@ pub fn recalled(
     }
 }
 
-/// Whether it is known already that there are no such terms.
-pub fn has_none(memo: &Memo, wanted: Wanted, from: usize, to: usize) -> bool
-    ensures { IsTrue result → Listed memo.now.entries.items (OfTerm wanted.sort wanted.below) from
-        to Empty }
+/// Whether there are no such terms, if it was asked before.
+pub fn known_none(memo: &Memo, wanted: Wanted, from: usize, to: usize) -> Option<bool>
+    ensures { result ≡ Some true → Listed memo.now.entries.items (OfTerm wanted.sort wanted.below)
+        from to Empty }
 {
     let question = Question::OfTerm {
         sort: wanted.sort,
         below: wanted.below,
     };
     match answer(memo, question, from, to) {
-        Some(Few::Empty) => true,
-        _ => false,
+        Some(Few::Empty) => Some(true),
+        Some(_) => Some(false),
+        None => None,
     }
 }
 

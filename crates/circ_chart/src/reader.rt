@@ -15,7 +15,7 @@ ghost use Rattle.circ_chart.specs.Reader.{RowsOver, RestOver, LastOver, SplitOve
 
 use crate::asked::{Gap, Part};
 use crate::few::{Few, both, is_full};
-use crate::memo::{Memo, Question, has_none, kept, recalled};
+use crate::memo::{Memo, Question, kept, known_none, recalled};
 use crate::places::{Tables, can_span, next_at, table_at};
 use crate::rows::{last_rows, no_symbols, products};
 use crate::variables::variables_over;
@@ -127,10 +127,10 @@ impl Reader<'_> {
         if !may_spell(self.starts, wanted.sort as usize, from, to) {
             return true;
         }
-        if self.is_out(wanted, from, to) {
-            return true;
+        match known_none(memo, wanted, from, to) {
+            Some(is_none) => is_none,
+            None => self.is_out(wanted, from, to),
         }
-        has_none(memo, wanted, from, to)
     }
 
     // Whether it is known that the symbols of a rule from a place on have no arguments: they are

@@ -1,3 +1,4 @@
+use Rattle.std.proofs.Common.{Some, ap, ◌∙◌}
 use Rattle.circ_chart.specs.declared.memo.Question.TheVariants.{OfTerm}
 use Rattle.circ_chart.specs.declared.few.Few.TheVariants.{Empty}
 use Rattle.circ_spelling.specs.Reads.{Reads}
@@ -12,9 +13,10 @@ returns-then-not-may_spell c =
     let r = a.self.now in
     λ e x h. c.may_spell.ensures c.if-not-may_spell.true (may_reads r.grammar.now r.tokens.now r.starts.now a.wanted.below a.wanted.sort a.from a.to x h c.requires.ready.starts c.requires.ready.words)
 
-pub returns : goal.returns
-returns c =
+pub returns-in-Some : goal.returns-in-Some
+returns-in-Some c =
     let a = c.args in
     let r = a.self.now in
     λ e x h. none_of (Reads r.grammar.now r.tokens.now a.wanted.below a.wanted.sort a.from a.to)
-    (listed_answer r.grammar.now r.tokens.now a.memo.now.entries.items (OfTerm a.wanted.sort a.wanted.below) a.from a.to Empty c.requires.ready.memo (c.has_none.ensures e)).enough x h
+    (listed_answer r.grammar.now r.tokens.now a.memo.now.entries.items (OfTerm a.wanted.sort a.wanted.below) a.from a.to Empty c.requires.ready.memo
+    (c.known_none.ensures (c.in-Some.is ∙ ap Some e))).enough x h
