@@ -100,8 +100,8 @@ impl Reader<'_> {
         true
     }
 
-    // Whether a glance tells that the range has no such terms: it has some tokens, no parenthesis
-    // before them, and no rule can span it.
+    // Whether a glance tells that the range has no such terms: it has two tokens or more, it does
+    // not begin with a parenthesis, and no rule can span it.
     fn is_out(&self, wanted: Wanted, from: usize, to: usize) -> bool
         requires words { HaveWords self.now.grammar.now }
         requires tables { HaveTables self.now.tokens.now self.now.grammar.now.rules.items
