@@ -1,5 +1,5 @@
 //! Links as text is read.
-ghost use Rattle.std.specs.Prelude.{◌≡◌, IfOk};
+ghost use Rattle.std.specs.Prelude.{◌≡◌, [], IfOk};
 ghost use Rattle.std.specs.Option.{option_map};
 ghost use Rattle.circ_proof.specs.Plain.{plain_link};
 ghost use Rattle.circ_line.specs.Read.{link_of, instance_of, assumption_of, content_of};
@@ -35,17 +35,8 @@ fn equation_of(alloc: Global, bytes: &[u8]) -> Result<Option<Link>, AllocError>
     ensures { IfOk result (λ o. option_map plain_link o ≡
         option_map to_equation (instance_of bytes.now)) }
 {
-    let Some((way, rest)) = way_at(bytes) else {
-        return Ok(None);
-    };
-    let Some((number, rest)) = field_at(rest) else {
-        return Ok(None);
-    };
     let mut path = Path::new(alloc);
-    let Some(rest) = fill_path(&mut path, rest)? else {
-        return Ok(None);
-    };
-    let Some(terms) = numbers_of(alloc, rest)? else {
+    let Some((way, number, terms)) = instance_into(alloc, &mut path, bytes)? else {
         return Ok(None);
     };
     Ok(Some(equation(alloc, way, number, path, terms)))
@@ -56,20 +47,37 @@ fn hypothesis_of(alloc: Global, bytes: &[u8]) -> Result<Option<Link>, AllocError
     ensures { IfOk result (λ o. option_map plain_link o ≡
         option_map to_hypothesis (instance_of bytes.now)) }
 {
+    let mut path = Path::new(alloc);
+    let Some((way, number, terms)) = instance_into(alloc, &mut path, bytes)? else {
+        return Ok(None);
+    };
+    Ok(Some(hypothesis(alloc, way, number, path, terms)))
+}
+
+// An instance of a rule: the way, the rule's number and the numbers of the terms. Its path goes
+// into one that has no entries, so that it is not moved.
+fn instance_into(
+    alloc: Global,
+    path: &mut Path,
+    bytes: &[u8],
+) -> Result<Option<(Way, u32, Vec<u32>)>, AllocError>
+    requires { path.old.items ≡ [] }
+    ensures { IfOk result (λ o. option_map
+        (λ r. ((r.0, (r.1, path.new.items)), r.2.items)) o ≡ instance_of bytes.now) }
+{
     let Some((way, rest)) = way_at(bytes) else {
         return Ok(None);
     };
     let Some((number, rest)) = field_at(rest) else {
         return Ok(None);
     };
-    let mut path = Path::new(alloc);
-    let Some(rest) = fill_path(&mut path, rest)? else {
+    let Some(rest) = fill_path(path, rest)? else {
         return Ok(None);
     };
     let Some(terms) = numbers_of(alloc, rest)? else {
         return Ok(None);
     };
-    Ok(Some(hypothesis(alloc, way, number, path, terms)))
+    Ok(Some((way, number, terms)))
 }
 
 fn equation(alloc: Global, way: Way, number: u32, path: Path, terms: Vec<u32>) -> Link
