@@ -1,13 +1,13 @@
 -- How a number is put into its chain, and taken out of it again.
-use Rattle.std.specs.Prelude.{◌≡◌, ℕ, zero, suc, ◌+◌, ◌-◌, ◌%◌, ◌≤◌, ◌<◌, List, [], ◌∷◌, ◌++◌, length, map, replicate, slice_set, Some, refl}
+use Rattle.std.specs.Prelude.{◌≡◌, ℕ, zero, suc, ◌+◌, ◌-◌, ◌≤◌, ◌<◌, List, [], ◌∷◌, ◌++◌, length, replicate, slice_set, Some, refl}
 use Rattle.std.specs.List.{slice_get}
 use Rattle.std.proofs.Common.{ap, sym, subst, ◌∙◌, arith, ◌⊎◌, inl, inr}
 use Rattle.std.proofs.lemmas.Bool.{cases_eq}
 use Rattle.std.proofs.lemmas.List.{length-set, length-map, map-append}
-use Rattle.std.proofs.lemmas.Option.{same_Some, slice_get_within}
+use Rattle.std.proofs.lemmas.Option.{same_Some}
 use Rattle.circ_hash_chains.specs.declared.hash_chains.Link.{Link}
 use Rattle.circ_hash_chains.specs.declared.hash_chains.TheConstants.{CHAIN_END}
-use Rattle.circ_hash_chains.specs.Chains.{keys_of, StandsIn, Leads, IsNewest, IsLinked}
+use Rattle.circ_hash_chains.specs.Chains.{keys_of, chain_of, StandsIn, Leads, IsNewest, IsLinked}
 use Rattle.circ_hash_chains.proofs.Lists.{get_front, get_back, get_put, get_other, get_replicate, get_map}
 
 -- none before the first
@@ -29,11 +29,11 @@ newest_more keys w chain count link apart h = record { above = λ m b s. above m
     there (inr s) = inr (s.0, omega (arith, s.1), s.2)
 
 -- another becomes the newest of its chain
-pub linked_more : (keys : List ℕ) (links : List Link) (heads : List ℕ) (count chain : ℕ) (link : Link) → slice_get keys count ≡ Some link.key → link.key % length heads ≡ chain
+pub linked_more : (keys : List ℕ) (links : List Link) (heads : List ℕ) (count chain : ℕ) (link : Link) → slice_get keys count ≡ Some link.key → chain_of link.key (length heads) ≡ chain
     → slice_get heads chain ≡ Some link.next → IsLinked keys links heads count → IsLinked keys (slice_set links count link) (slice_set heads chain (count + 1)) (count + 1)
 linked_more keys links heads count chain link there is read h = record {
   newest = λ c l e. subst (λ w. IsNewest keys w c (count + 1) l) (sym wide) (newest c l e (cases_eq chain c));
-  older = λ m l b f. subst (λ w. IsNewest keys w (l.key % w) m l.next) (sym wide) (older m l b f (cases_eq m count));
+  older = λ m l b f. subst (λ w. IsNewest keys w (chain_of l.key w) m l.next) (sym wide) (older m l b f (cases_eq m count));
 }
   where
     wide : length (slice_set heads chain (count + 1)) ≡ length heads
@@ -50,16 +50,16 @@ linked_more keys links heads count chain link there is read h = record {
     newest c l e (inr s) = newest_more keys (length heads) c count l apart (h.newest c l (get_other heads chain c (count + 1) l s e))
       where
         apart : StandsIn keys (length heads) c count → ⊥
-        apart t = s (sym is ∙ ap (λ k. k % length heads) (same_Some link.key t.0 (sym there ∙ t.1)) ∙ t.2)
+        apart t = s (sym is ∙ ap (λ k. chain_of k (length heads)) (same_Some link.key t.0 (sym there ∙ t.1)) ∙ t.2)
 
     older : (m : ℕ) (l : Link) → m < count + 1 → slice_get (slice_set links count link) m ≡ Some l → (m ≡ count) ⊎ (m ≡ count → ⊥)
-        → IsNewest keys (length heads) (l.key % length heads) m l.next
+        → IsNewest keys (length heads) (chain_of l.key (length heads)) m l.next
     older m l b f (inr s) = h.older m l (omega arith) (get_other links count m link l (λ z. s (sym z)) f)
     older m l b f (inl s) =
         let put : link ≡ l = get_put links count link l (ap (slice_get (slice_set links count link)) (sym s) ∙ f) in
-        let P : ℕ → Type 0 = λ n. IsNewest keys (length heads) (l.key % length heads) n l.next in
+        let P : ℕ → Type 0 = λ n. IsNewest keys (length heads) (chain_of l.key (length heads)) n l.next in
         let Q : ℕ → Type 0 = λ c. IsNewest keys (length heads) c count link.next in
-        let R : Link → Type 0 = λ n. IsNewest keys (length heads) (n.key % length heads) count n.next in
+        let R : Link → Type 0 = λ n. IsNewest keys (length heads) (chain_of n.key (length heads)) count n.next in
         subst P (sym s) (subst R put (subst Q (sym is) (h.newest chain link.next read)))
 
 -- a link in place of one with its key
@@ -86,7 +86,7 @@ linked_next links extra heads h =
     let P : List ℕ → Type 0 = λ ks. IsLinked ks (links ++ extra ∷ []) heads (length links) in
     subst P (sym (map-append (λ l. l.key) links (extra ∷ []))) (record {
       newest = λ chain link e. newest_longer (keys_of links) (extra.key ∷ []) (length heads) chain (length links) link (omega (arith, long)) (h.newest chain link e);
-      older = λ m link b e. newest_longer (keys_of links) (extra.key ∷ []) (length heads) (link.key % length heads) m link.next (omega (arith, long)) (h.older m link b (get_back links (extra ∷ []) m link b e));
+      older = λ m link b e. newest_longer (keys_of links) (extra.key ∷ []) (length heads) (chain_of link.key (length heads)) m link.next (omega (arith, long)) (h.older m link b (get_back links (extra ∷ []) m link b e));
     })
 
 -- with a key less those of the numbers that stay are the same
@@ -113,17 +113,17 @@ newest_less keys w chain count link apart h = record { above = λ m b s. h.above
 
 -- The last number is taken out of its chain: its link becomes the chain's first.
 pub linked_less : (front : List Link) (last : Link) (heads : List ℕ) → IsLinked (keys_of (front ++ last ∷ [])) (front ++ last ∷ []) heads (length front + 1)
-    → IsLinked (keys_of front) front (slice_set heads (last.key % length heads) last.next) (length front)
+    → IsLinked (keys_of front) front (slice_set heads (chain_of last.key (length heads)) last.next) (length front)
 linked_less front last heads h = record {
-  newest = λ c l e. subst (λ w. IsNewest (keys_of front) w c (length front) l) (sym wide) (newest c l e (cases_eq (last.key % length heads) c));
-  older = λ m l b f. subst (λ w. IsNewest (keys_of front) w (l.key % w) m l.next) (sym wide) (older m l b f);
+  newest = λ c l e. subst (λ w. IsNewest (keys_of front) w c (length front) l) (sym wide) (newest c l e (cases_eq (chain_of last.key (length heads)) c));
+  older = λ m l b f. subst (λ w. IsNewest (keys_of front) w (chain_of l.key w) m l.next) (sym wide) (older m l b f);
 }
   where
     long : length (keys_of front) ≡ length front
     long = length-map front (λ l. l.key)
 
-    wide : length (slice_set heads (last.key % length heads) last.next) ≡ length heads
-    wide = length-set heads (last.key % length heads) last.next
+    wide : length (slice_set heads (chain_of last.key (length heads)) last.next) ≡ length heads
+    wide = length-set heads (chain_of last.key (length heads)) last.next
 
     same : keys_of (front ++ last ∷ []) ≡ keys_of front ++ last.key ∷ []
     same = map-append (λ l. l.key) front (last ∷ [])
@@ -136,21 +136,21 @@ linked_less front last heads h = record {
     short c count l few k =
         newest_shorter (keys_of front) (last.key ∷ []) (length heads) c count l (omega (arith, long)) (let P : List ℕ → Type 0 = λ ks. IsNewest ks (length heads) c count l in subst P same k)
 
-    older : (m : ℕ) (l : Link) → m < length front → slice_get front m ≡ Some l → IsNewest (keys_of front) (length heads) (l.key % length heads) m l.next
-    older m l b f = short (l.key % length heads) m l.next (omega arith) (h.older m l (omega arith) (get_front front (last ∷ []) m l f))
+    older : (m : ℕ) (l : Link) → m < length front → slice_get front m ≡ Some l → IsNewest (keys_of front) (length heads) (chain_of l.key (length heads)) m l.next
+    older m l b f = short (chain_of l.key (length heads)) m l.next (omega arith) (h.older m l (omega arith) (get_front front (last ∷ []) m l f))
 
-    newest : (c l : ℕ) → slice_get (slice_set heads (last.key % length heads) last.next) c ≡ Some l → (last.key % length heads ≡ c) ⊎ (last.key % length heads ≡ c → ⊥)
+    newest : (c l : ℕ) → slice_get (slice_set heads (chain_of last.key (length heads)) last.next) c ≡ Some l → (chain_of last.key (length heads) ≡ c) ⊎ (chain_of last.key (length heads) ≡ c → ⊥)
         → IsNewest (keys_of front) (length heads) c (length front) l
     newest c l e (inl s) =
-        let put : last.next ≡ l = get_put heads (last.key % length heads) last.next l (ap (slice_get (slice_set heads (last.key % length heads) last.next)) s ∙ e) in
-        let own = short (last.key % length heads) (length front) last.next (omega arith) (h.older (length front) last (omega arith) (seam front last)) in
+        let put : last.next ≡ l = get_put heads (chain_of last.key (length heads)) last.next l (ap (slice_get (slice_set heads (chain_of last.key (length heads)) last.next)) s ∙ e) in
+        let own = short (chain_of last.key (length heads)) (length front) last.next (omega arith) (h.older (length front) last (omega arith) (seam front last)) in
         let P : ℕ → Type 0 = λ x. IsNewest (keys_of front) (length heads) x (length front) l in
-        let Q : ℕ → Type 0 = λ x. IsNewest (keys_of front) (length heads) (last.key % length heads) (length front) x in
+        let Q : ℕ → Type 0 = λ x. IsNewest (keys_of front) (length heads) (chain_of last.key (length heads)) (length front) x in
         subst P s (subst Q put own)
     newest c l e (inr s) =
-        short c (length front) l (omega arith) (newest_less (keys_of (front ++ last ∷ [])) (length heads) c (length front) l apart (h.newest c l (get_other heads (last.key % length heads) c last.next l s e)))
+        short c (length front) l (omega arith) (newest_less (keys_of (front ++ last ∷ [])) (length heads) c (length front) l apart (h.newest c l (get_other heads (chain_of last.key (length heads)) c last.next l s e)))
       where
         apart : StandsIn (keys_of (front ++ last ∷ [])) (length heads) c (length front) → ⊥
         apart t =
             let there : slice_get (keys_of (front ++ last ∷ [])) (length front) ≡ Some last.key = get_map (λ x. x.key) (front ++ last ∷ []) (length front) last (seam front last) in
-            s (ap (λ k. k % length heads) (same_Some last.key t.0 (sym there ∙ t.1)) ∙ t.2)
+            s (ap (λ k. chain_of k (length heads)) (same_Some last.key t.0 (sym there ∙ t.1)) ∙ t.2)

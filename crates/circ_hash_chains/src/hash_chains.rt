@@ -1,10 +1,10 @@
 //! Numbers in chains by their keys.
-ghost use Rattle.std.specs.Prelude.{◌≡◌, ◌+◌, ◌<◌, ◌≤◌, ◌-◌, ◌%◌, ◌^◌, ◌++◌, ◌∷◌, ℕ};
+ghost use Rattle.std.specs.Prelude.{◌≡◌, ◌+◌, ◌<◌, ◌≤◌, ◌-◌, ◌^◌, ◌++◌, ◌∷◌, ℕ};
 ghost use Rattle.std.specs.Prelude.{[], length, take, Some, OnOk, OnErr};
 ghost use Rattle.std.specs.Prelude.{vec_len, vec_capacity};
 ghost use Rattle.std.specs.List.{slice_get};
 ghost use Rattle.circ_hash_chains.specs.Keys.{IsLastBelow};
-ghost use Rattle.circ_hash_chains.specs.Chains.{keys_of, Leads, IsLinked, AreChains};
+ghost use Rattle.circ_hash_chains.specs.Chains.{keys_of, chain_of, Leads, IsLinked, AreChains};
 
 use std::alloc::{AllocError, Global};
 use std::marker::Model;
@@ -14,6 +14,10 @@ const CHAIN_END: u32 = 0;
 
 // The fewest chains.
 const FEWEST: usize = 9;
+
+// 2^32 over the golden ratio, as an odd number. A key times this, kept below 2^32, has upper bits
+// that all bits of the key tell, and keys in a row come to lie far apart (Fibonacci hashing).
+const SPREAD: u32 = 2_654_435_769;
 
 // The most numbers, so that each link is a `u32`.
 const MOST_NUMBERS: usize = 4_294_967_295;
@@ -106,7 +110,8 @@ impl HashChains {
         self.chains.links[number as usize].key
     }
 
-    /// The last number with this key. Costs little if keys differ, whatever their bits are.
+    /// The last number with this key. Costs little if keys differ, whatever bits they differ in,
+    /// unless they were chosen to meet in one chain.
     pub fn newest(&self, key: u32) -> Option<u32>
         ensures { IsLastBelow self.now key (length self.now) result }
     {
@@ -130,7 +135,7 @@ impl HashChains {
 
 impl Chains {
     // Makes room for one number more, and more chains than there are numbers. Twice as many are
-    // made, so that this is seldom done, and one more, so that all bits of a key tell its chain.
+    // made, so that this is seldom done.
     fn make_room(&mut self, alloc: Global) -> Result<(), AllocError>
         requires { AreChains self.old }
         ensures keys { keys_of self.new.links.items ≡ keys_of self.old.links.items }
@@ -143,7 +148,7 @@ impl Chains {
         if count < self.heads.len() {
             return Ok(());
         }
-        let mut heads = vec![in alloc; CHAIN_END; (2 * count + 1).max(FEWEST)]?;
+        let mut heads = vec![in alloc; CHAIN_END; (2 * count).max(FEWEST)]?;
         enter_all(self.links.as_mut_slice(), heads.as_mut_slice());
         self.heads = heads;
         Ok(())
@@ -196,7 +201,7 @@ impl Chains {
     fn walk(&self, start: u32, key: u32) -> Option<u32>
         requires chains { AreChains self.now }
         requires start { Leads (keys_of self.now.links.items) (length self.now.heads.items)
-            (key % length self.now.heads.items) (length self.now.links.items) start }
+            (chain_of key (length self.now.heads.items)) (length self.now.links.items) start }
         ensures { IsLastBelow (keys_of self.now.links.items) key start result }
     {
         let mut link = start;
@@ -212,13 +217,16 @@ impl Chains {
     }
 }
 
-// The chain of a key, where there are so many.
+// The chain of a key, where there are so many: as large a part of all chains as the key, spread, is
+// of 2^32. So there is no division, and any width will do (Lemire's range reduction).
+#[tactic(auto, unfolding(crate::specs::Chains::chain_of))]
 fn chain_of(key: u32, width: usize) -> usize
     requires { 0 < width }
-    ensures is { result ≡ key % width }
+    ensures is { result ≡ chain_of key width }
     ensures within { result < width }
 {
-    key as usize % width
+    let spread = key.wrapping_mul(SPREAD);
+    ((spread as u128 * width as u128) >> 32) as usize
 }
 
 // Puts all numbers into chains that are empty.

@@ -1,5 +1,4 @@
-use Rattle.std.proofs.Common.{◌≡◌, ◌+◌, ◌%◌, ◌∙◌, ℕ, List, length, Some, refl, ap, sym, subst, slice_index_or, slice_set, arith}
-use Rattle.std.specs.List.{slice_get}
+use Rattle.std.proofs.Common.{◌+◌, ℕ, List, refl, sym, subst, slice_index_or, slice_set}
 use Rattle.std.proofs.lemmas.Option.{slice_get-get_or}
 use Rattle.circ_hash_chains.specs.declared.hash_chains.Link.{Link}
 use Rattle.circ_hash_chains.specs.Chains.{keys_of, IsLinked}

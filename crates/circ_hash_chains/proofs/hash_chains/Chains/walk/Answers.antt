@@ -1,8 +1,7 @@
-use Rattle.std.proofs.Common.{◌≡◌, ◌-◌, length, Some, refl, arith}
-use Rattle.std.specs.List.{slice_get}
+use Rattle.std.proofs.Common.{◌-◌, length, refl, arith}
 use Rattle.std.proofs.lemmas.Option.{slice_get_read}
 use Rattle.circ_hash_chains.specs.Chains.{keys_of}
-use Rattle.circ_hash_chains.proofs.Walking.{IsWalk, walk_within, walk_found, walk_on, walk_ended}
+use Rattle.circ_hash_chains.proofs.Walking.{walk_within, walk_on}
 use Rattle.circ_hash_chains.proofs.hash_chains.Chains.walk.Goals as goal
 
 pub loop-link-preserved : goal.loop-link-preserved
