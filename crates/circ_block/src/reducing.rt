@@ -95,13 +95,8 @@ pub(crate) fn goal_reducers<'a>(
     ensures other { IfOk result (λ two. IsReducerOf theory.now rules.now two.1) }
 {
     let first = GoalReducer::new(alloc, theory, rules)?;
-    match GoalReducer::new(alloc, theory, rules) {
-        Ok(other) => Ok((first, other)),
-        Err(fault) => {
-            drop(first);
-            Err(fault)
-        }
-    }
+    let other = GoalReducer::new(alloc, theory, rules)?;
+    Ok((first, other))
 }
 
 // The goal goes behind the rules.

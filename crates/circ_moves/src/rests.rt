@@ -101,80 +101,12 @@ pub(crate) fn push_over_rests(
         ++ Using (plain_use hypothesis)
         ∷ regrouped op path.now (join op sort (rests.right ∷ rests.both.items)) b.now) }
 {
-    let round = round_of(alloc, op, sort, path, a, b, &rests);
-    drop(rests);
-    match round {
-        Ok(Round { first, last }) => push_round(moves, first, hypothesis, last),
-        Err(fault) => {
-            drop(hypothesis);
-            Err(fault)
-        }
-    }
-}
-
-// What makes the left rest of a term, and another term of the right one.
-#[derive(Drop)]
-struct Round {
-    first: Option<Move>,
-    last: Option<Move>,
-}
-
-// The moves before a hypothesis on the rests, and behind it.
-fn round_of(
-    alloc: Global,
-    op: u32,
-    sort: u32,
-    path: &[u16],
-    a: &Term,
-    b: &Term,
-    rests: &Rests,
-) -> Result<Round, AllocError>
-    ensures first { IfOk result (λ r. moves_of r.first
-        ≡ regrouped op path.now a.now (join op sort (rests.now.left ∷ rests.now.both.items))) }
-    ensures last { IfOk result (λ r. moves_of r.last
-        ≡ regrouped op path.now (join op sort (rests.now.right ∷ rests.now.both.items)) b.now) }
-{
-    let both = rests.both.as_slice();
-    let first = regrouped(alloc, op, sort, path, a, &rests.left, both)?;
-    let last = regrouped_back(alloc, op, sort, path, &rests.right, both, b)?;
-    Ok(Round { first, last })
-}
-
-// Appends a hypothesis, and what stands before it and behind.
-fn push_round(
-    moves: &mut Vec<Move>,
-    first: Option<Move>,
-    hypothesis: HypothesisUse,
-    last: Option<Move>,
-) -> Result<(), AllocError>
-    ensures { OnOk result (plain_moves moves.new.items ≡ plain_moves moves.old.items
-        ++ moves_of first ++ Using (plain_use hypothesis) ∷ moves_of last) }
-{
-    match push_some(moves, first) {
-        Ok(()) => push_behind(moves, hypothesis, last),
-        Err(fault) => {
-            drop(hypothesis);
-            drop(last);
-            Err(fault)
-        }
-    }
-}
-
-fn push_behind(
-    moves: &mut Vec<Move>,
-    hypothesis: HypothesisUse,
-    last: Option<Move>,
-) -> Result<(), AllocError>
-    ensures { OnOk result (plain_moves moves.new.items ≡ plain_moves moves.old.items
-        ++ Using (plain_use hypothesis) ∷ moves_of last) }
-{
-    match push_some(moves, Some(Move::Using { hypothesis })) {
-        Ok(()) => push_some(moves, last),
-        Err(fault) => {
-            drop(last);
-            Err(fault)
-        }
-    }
+    let Rests { left, right, both } = rests;
+    let first = regrouped(alloc, op, sort, path, a, &left, both.as_slice())?;
+    let last = regrouped_back(alloc, op, sort, path, &right, both.as_slice(), b)?;
+    push_some(moves, first)?;
+    moves.push(Move::Using { hypothesis })?;
+    push_some(moves, last)
 }
 
 fn push_some(moves: &mut Vec<Move>, one: Option<Move>) -> Result<(), AllocError>
