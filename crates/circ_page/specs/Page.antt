@@ -5,13 +5,10 @@ use Rattle.std.specs.Str.Lines.{lines as lines_of}
 use Rattle.circ_outer.specs.Shelf.{ShelfState}
 use Rattle.circ_outer.specs.Sink.{SinkState}
 use Rattle.circ_files.specs.declared.status.Status.{Status}
-use Rattle.circ_files.specs.declared.status.Status.TheVariants as status
 use Rattle.circ_files.specs.Status.{number_of}
-use Rattle.circ_top.specs.Command.{Check, Prove, Asks}
-use Rattle.circ_top.specs.Check.{Accepts}
-use Rattle.circ_top.specs.Prove.{StoresProof}
 use Rattle.circ_top.specs.InMemory.{HoldsFiles, Appends}
-use Rattle.circ_top.specs.Answer.{AnswersDue}
+use Rattle.circ_top.specs.Promises.{Promises}
+use Rattle.circ_top.specs.Run.{Run}
 
 -- what a file holds, and nothing where there is none
 abbrev pub file_bytes : Option (List ℕ) → List ℕ
@@ -26,17 +23,17 @@ pub record HoldsPage (theory goals proof : List ℕ) (s : ShelfState) : Type 0 w
   pub proof_held : s.holds (codes "proof") ≡ Some proof
   pub no_other : (n : List ℕ) → n ≢ codes "theory" → n ≢ codes "goals" → n ≢ codes "proof" → s.holds n ≡ None
 
--- A run of the program with these words over the files of the page, from an empty sink: its answer is due; it is the outcome, with its text and what it stores,
--- or want of memory, where the files are there that the words name; and 0 says of a check and of a search what the program's own clauses say.
+-- A run of the program with these words over the files of the page, from an empty sink: it keeps all that the program promises; and its answer is the outcome,
+-- with its text and what it stores, or want of memory, where the files are there that the words name.
 pub record RunsPage (words : List (List ℕ)) (theory goals proof : List ℕ) (answer : Status) (after : ShelfState) (end : SinkState) : Type 0 where
-  pub before : ShelfState
-  pub start : SinkState
-  pub held : HoldsPage theory goals proof before
-  pub nothing : start.written ≡ []
-  pub due : AnswersDue words before after start end answer
-  pub outcome : HoldsFiles words before.holds → Appends words before after start end answer
-  pub accepted : (report : _) (t p : List ℕ) → Asks words (Check report t p) → answer ≡ status.Ok → Accepts report t p before after start end
-  pub proved : (limits : _) (t g p : List ℕ) → Asks words (Prove limits t g p) → answer ≡ status.Ok → StoresProof t g p before after start end
+  pub run : Run
+  pub words_are : run.words ≡ words
+  pub after_is : run.after ≡ after
+  pub end_is : run.end ≡ end
+  pub held : HoldsPage theory goals proof run.before
+  pub nothing : run.start.written ≡ []
+  pub promises : Promises run answer
+  pub outcome : HoldsFiles run.words run.before.holds → Appends run answer
 
 -- As many of the bytes as there was room for were moved to the front of a buffer, and the count says how many there are.
 pub record HandsOut (bytes room filled : List ℕ) (count : ℕ) : Type 0 where

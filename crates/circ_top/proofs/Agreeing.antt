@@ -12,6 +12,7 @@ use Rattle.circ_files.specs.Files.{Refusal, RefusesFile, IsFileFault}
 use Rattle.circ_files.specs.Like.{IsLike, itself}
 use Rattle.circ_files.specs.Ending.{Stored}
 use Rattle.circ_top.specs.Outcome.{OutcomeOf, Outcome, command}
+use Rattle.circ_top.specs.Run.{Run}
 use Rattle.circ_top.specs.Storing.{HoldsAfter, IsUnstored, FailsToStore, Ends, stored_first, not_stored}
 use Rattle.circ_top.specs.Refusals.{refusal_text}
 use Rattle.circ_files.specs.declared.status.Status.{Status}
@@ -79,54 +80,54 @@ front_part text start end p = λ t. ((p t).0, ((p t).1.0, (p t).1.1.1))
 itself_part : (s : Status) (text : List ℕ) (start end : SinkState) → PrintsPart text start end → PrintsPartOf s text start end
 itself_part s text start end p = record { answer = s; given = text; like = itself s text; part = p }
 
-module _ (before after : ShelfState) (start end : SinkState) (s : Status) (text : List ℕ) where
-  nothing_printed : Prints [] start end → PrintsPartOf s text start end
-  nothing_printed p = itself_part s text start end (nothing_part text start end (whole_part [] start end p))
+module _ (run : Run) (s : Status) (text : List ℕ) where
+  nothing_printed : Prints [] run.start run.end → PrintsPartOf s text run.start run.end
+  nothing_printed p = itself_part s text run.start run.end (nothing_part text run.start run.end (whole_part [] run.start run.end p))
 
-  front_printed : PrintsFront [] start end → PrintsPartOf s text start end
-  front_printed p = itself_part s text start end (nothing_part text start end (front_part [] start end p))
+  front_printed : PrintsFront [] run.start run.end → PrintsPartOf s text run.start run.end
+  front_printed p = itself_part s text run.start run.end (nothing_part text run.start run.end (front_part [] run.start run.end p))
 
   -- a like answer, by what becomes of its text
-  like_answers : (stored : Option Stored) (d r : Status) (given : List ℕ) → HoldsAfter stored before after → IsLike s text d given
-      → Delivers given start end d r → AnswersOutcome before after start end s text stored r
+  like_answers : (stored : Option Stored) (d r : Status) (given : List ℕ) → HoldsAfter stored run.before run.after → IsLike s text d given
+      → Delivers given run.start run.end d r → AnswersOutcome run s text stored r
   like_answers stored d _ given h l (whole p) = printed d given l h p
   like_answers stored d _ given h l (write_failed n some c rose p) =
-      not_written n rose h (record { answer = d; given = given; like = l; part = front_part given start end p })
-  like_answers stored d _ given h l (memory_wanted q p) = no_memory (record { answer = d; given = given; like = l; part = front_part given start end p })
+      not_written n rose h (record { answer = d; given = given; like = l; part = front_part given run.start run.end p })
+  like_answers stored d _ given h l (memory_wanted q p) = no_memory (record { answer = d; given = given; like = l; part = front_part given run.start run.end p })
   like_answers stored d _ given h l (text_wanted p) =
-      no_memory (record { answer = d; given = given; like = l; part = nothing_part given start end (whole_part [] start end p) })
+      no_memory (record { answer = d; given = given; like = l; part = nothing_part given run.start run.end (whole_part [] run.start run.end p) })
 
   -- an answer without a text, of a file that was not read
-  unread_answers : (stored : Option Stored) (n : ℕ) (r : Status) → Rose before.count after.count → Delivers [] start end (status.ReadFault n) r
-      → AnswersOutcome before after start end s text stored r
+  unread_answers : (stored : Option Stored) (n : ℕ) (r : Status) → Rose run.before.count run.after.count → Delivers [] run.start run.end (status.ReadFault n) r
+      → AnswersOutcome run s text stored r
   unread_answers stored n _ rose (whole p) = not_read n rose p
   unread_answers stored n _ rose (write_failed m some c up p) = absurd (some refl)
   unread_answers stored n _ rose (memory_wanted q p) = no_memory (front_printed p)
   unread_answers stored n _ rose (text_wanted p) = no_memory (nothing_printed p)
 
-  memory_answers : (stored : Option Stored) (r : Status) → Delivers [] start end status.Memory r → AnswersOutcome before after start end s text stored r
+  memory_answers : (stored : Option Stored) (r : Status) → Delivers [] run.start run.end status.Memory r → AnswersOutcome run s text stored r
   memory_answers stored _ (whole p) = no_memory (nothing_printed p)
   memory_answers stored _ (write_failed m some c up p) = absurd (some refl)
   memory_answers stored _ (memory_wanted q p) = no_memory (front_printed p)
   memory_answers stored _ (text_wanted p) = no_memory (nothing_printed p)
 
   -- what was to be stored was not
-  unstored_answers : (stored other : Option Stored) (r : Status) → other ≡ stored → FailsToStore other before after r → Prints [] start end
-      → AnswersOutcome before after start end s text stored r
+  unstored_answers : (stored other : Option Stored) (r : Status) → other ≡ stored → FailsToStore other run.before run.after r → Prints [] run.start run.end
+      → AnswersOutcome run s text stored r
   unstored_answers stored other r e u p = go r u.why
     where
-      go : (r : Status) → IsUnstored u.file.name before after r → AnswersOutcome before after start end s text stored r
+      go : (r : Status) → IsUnstored u.file.name run.before run.after r → AnswersOutcome run s text stored r
       go (status.WriteFault n) w = not_put n u.file (sym e ∙ u.is) w.0 w.1 u.others p
       go status.Memory w = no_memory (nothing_printed p)
       go _ w = absurd w
 
-  nothing_unstored : {A : Type 0} → (r : Status) → FailsToStore None before after r → A
+  nothing_unstored : {A : Type 0} → (r : Status) → FailsToStore None run.before run.after r → A
   nothing_unstored r u = absurd (let never : None ≡ Some u.file = u.is in cc)
 
-  pub agree_answers : (stored other : Option Stored) (d r : Status) (given : List ℕ) → AgreesWith before after s text stored d given other
-      → Ends before after start end d given other r → AnswersOutcome before after start end s text stored r
+  pub agree_answers : (stored other : Option Stored) (d r : Status) (given : List ℕ) → AgreesWith run.before run.after s text stored d given other
+      → Ends run d given other r → AnswersOutcome run s text stored r
   agree_answers stored other d r given (agreed _ _ _ l e) (stored_first _ h x) =
-      let H : Option Stored → Type 0 = λ y. HoldsAfter y before after in like_answers stored d r given (subst H e h) l x
+      let H : Option Stored → Type 0 = λ y. HoldsAfter y run.before run.after in like_answers stored d r given (subst H e h) l x
   agree_answers stored other d r given (agreed _ _ _ l e) (not_stored _ u p) = unstored_answers stored other r e u p
   agree_answers stored _ _ r _ (unread_file_with n rose) (stored_first _ h x) = unread_answers stored n r rose x
   agree_answers stored _ _ r _ (unread_file_with n rose) (not_stored _ u p) = nothing_unstored r u
@@ -134,9 +135,9 @@ module _ (before after : ShelfState) (start end : SinkState) (s : Status) (text 
   agree_answers stored _ _ r _ memory_with (not_stored _ u p) = nothing_unstored r u
 
   -- whatever is answered, a part of a like answer's text is printed
-  pub answers_part : (stored : Option Stored) (r : Status) → AnswersOutcome before after start end s text stored r → PrintsPartOf s text start end
-  answers_part stored _ (printed r given l h p) = record { answer = r; given = given; like = l; part = whole_part given start end p }
-  answers_part stored _ (not_read n rose p) = itself_part s text start end (nothing_part text start end (whole_part [] start end p))
+  pub answers_part : (stored : Option Stored) (r : Status) → AnswersOutcome run s text stored r → PrintsPartOf s text run.start run.end
+  answers_part stored _ (printed r given l h p) = record { answer = r; given = given; like = l; part = whole_part given run.start run.end p }
+  answers_part stored _ (not_read n rose p) = itself_part s text run.start run.end (nothing_part text run.start run.end (whole_part [] run.start run.end p))
   answers_part stored _ (not_written n rose h p) = p
   answers_part stored _ (not_put n x e c k o p) = nothing_printed p
   answers_part stored _ (no_memory p) = p

@@ -2,7 +2,6 @@
 use Rattle.std.proofs.Common.{◌≡◌, ◌≢◌, ℕ, List, [], refl, ap, sym, ◌∙◌, subst, inl, inr, Option, Some, None}
 use Rattle.std.proofs.lemmas.Option.{same_Some}
 use Rattle.circ_outer.specs.Shelf.{ShelfState, IsQuiet}
-use Rattle.circ_outer.specs.Sink.{SinkState}
 use Rattle.circ_theory.specs.Theory.{Theory}
 use Rattle.circ_theory.specs.Goal.{Goal}
 use Rattle.circ_theory.specs.WellFormed.{IsWellFormed}
@@ -26,6 +25,7 @@ use Rattle.circ_files.specs.Files.{Held, IsUnread, IsTooLong, IsFileFault}
 use Rattle.circ_files.specs.Ending.{Stored, ending}
 use Rattle.circ_found.specs.Answering.{SearchEnds}
 use Rattle.circ_top.specs.Outcome.{Outcome, command}
+use Rattle.circ_top.specs.Run.{Run}
 use Rattle.circ_top.specs.Storing.{HoldsAfter, IsUnstored, Ends, stored_first, not_stored}
 use Rattle.circ_files.specs.Texts.{refused_text}
 use Rattle.circ_top.specs.Refusals.{refusal_text}
@@ -247,53 +247,53 @@ stored_by words before after d text stored x (work_done c _ _ _ i a) e = record 
 stored_by words before after _ _ _ x (refusal c s i f) e = absurd (let never : None ≡ Some x = e in cc)
 stored_by words before after _ _ _ x words_unread e = absurd (let never : None ≡ Some x = e in cc)
 
-module _ (words : List (List ℕ)) (before after : ShelfState) (start end : SinkState) (r : Status) (a : AnswersDue words before after start end r) where
-  pub answers_succeed : IsQuietRun words before after r → r ≡ status.Ok → Succeeded words before after start end
-  answers_succeed q e = ended r a.ends e (quiet_ok before after words r e q)
+module _ (run : Run) (r : Status) (a : AnswersDue run r) where
+  pub answers_succeed : IsQuietRun run.words run.before run.after r → r ≡ status.Ok → Succeeded run
+  answers_succeed q e = ended r a.ends e (quiet_ok run.before run.after run.words r e q)
     where
-      go : (d : Status) (text : List ℕ) (stored : Option Stored) → DueAnswer words before after d text stored → HoldsAfter stored before after
-          → (r : Status) → Delivers text start end d r → r ≡ status.Ok → IsQuiet before after → Succeeded words before after start end
+      go : (d : Status) (text : List ℕ) (stored : Option Stored) → DueAnswer run.words run.before run.after d text stored → HoldsAfter stored run.before run.after
+          → (r : Status) → Delivers text run.start run.end d r → r ≡ status.Ok → IsQuiet run.before run.after → Succeeded run
       go _ _ _ (no_command n) h _ (whole p) e q = absurd (cc)
       go d text stored (work_done c _ _ _ i s) h _ (whole p) e q = record {
         command = c;
         text = text;
         stored = stored;
         asks = i;
-        succeeds = work_succeeds before c d text stored s e;
+        succeeds = work_succeeds run.before c d text stored s e;
         held = h;
         quiet = q;
         prints = p;
       }
-      go _ _ _ (refusal c s i f) h _ (whole p) e q = absurd (command_not_ok before after c s f e)
+      go _ _ _ (refusal c s i f) h _ (whole p) e q = absurd (command_not_ok run.before run.after c s f e)
       go _ _ _ words_unread h _ (whole p) e q = absurd (cc)
       go d text stored x h _ (write_failed n some i rose p) e q = absurd (cc)
       go d text stored x h _ (memory_wanted m p) e q = absurd (cc)
       go d text stored x h _ (text_wanted p) e q = absurd (cc)
 
-      ended : (r : Status) → Ends before after start end a.answer a.text a.stored r → r ≡ status.Ok → IsQuiet before after
-          → Succeeded words before after start end
+      ended : (r : Status) → Ends run a.answer a.text a.stored r → r ≡ status.Ok → IsQuiet run.before run.after
+          → Succeeded run
       ended r (stored_first _ h x) e q = go a.answer a.text a.stored a.due h r x e q
-      ended r (not_stored _ u p) e q = absurd (let P : Status → Type 0 = IsUnstored u.file.name before after in subst P e u.why)
+      ended r (not_stored _ u p) e q = absurd (let P : Status → Type 0 = IsUnstored u.file.name run.before run.after in subst P e u.why)
 
-  pub answers_accepted : IsQuietRun words before after r → (report : Report) (theory proof : List ℕ) → Asks words (Check report theory proof) → r ≡ status.Ok
-      → Accepts report theory proof before after start end
+  pub answers_accepted : IsQuietRun run.words run.before run.after r → (report : Report) (theory proof : List ℕ) → Asks run.words (Check report theory proof) → r ≡ status.Ok
+      → Accepts report theory proof run
   answers_accepted q report theory proof i e =
       let s = answers_succeed q e in
-      let P : Command → Type 0 = λ c. Succeeds c s.text s.stored before in
-      let accepted = (subst P (same_command words s.command (Check report theory proof) s.asks i) s.succeeds).0 in
+      let P : Command → Type 0 = λ c. Succeeds c s.text s.stored run.before in
+      let accepted = (subst P (same_command run.words s.command (Check report theory proof) s.asks i) s.succeeds).0 in
       record { text = s.text; accepted = accepted; quiet = s.quiet; prints = s.prints }
 
-  pub answers_proved : ProofsFound → IsQuietRun words before after r → (limits : Limits) (theory script proof : List ℕ)
-      → Asks words (Prove limits theory script proof) → r ≡ status.Ok → StoresProof theory script proof before after start end
+  pub answers_proved : ProofsFound → IsQuietRun run.words run.before run.after r → (limits : Limits) (theory script proof : List ℕ)
+      → Asks run.words (Prove limits theory script proof) → r ≡ status.Ok → StoresProof theory script proof run
   answers_proved found q limits theory script proof i e =
       let s = answers_succeed q e in
-      let P : Command → Type 0 = λ c. Succeeds c s.text s.stored before in
-      let a = subst P (same_command words s.command (Prove limits theory script proof) s.asks i) s.succeeds in
+      let P : Command → Type 0 = λ c. Succeeds c s.text s.stored run.before in
+      let a = subst P (same_command run.words s.command (Prove limits theory script proof) s.asks i) s.succeeds in
       let d = a.done in
       let ok = search_ok d.th (conduct_with limits) proof d.sc.blocks s.text s.stored d.ends in
       let says = found d.th d.takes_theory.well_formed d.sc.blocks a.searchable (conduct_with limits) ok.p ok.search in
-      let H : Option Stored → Type 0 = λ x. HoldsAfter x before after in
-      let T : List ℕ → Type 0 = λ x. Prints x start end in
+      let H : Option Stored → Type 0 = λ x. HoldsAfter x run.before run.after in
+      let T : List ℕ → Type 0 = λ x. Prints x run.start run.end in
       let held = subst H ok.stored_is s.held in
       record {
         th = d.th;
@@ -311,16 +311,16 @@ module _ (words : List (List ℕ)) (before after : ShelfState) (start end : Sink
         prints = subst T ok.text_is s.prints;
       }
 
-  pub answers_equal : ProofsFound → GoalsBehave → AlikeMatch → IsQuietRun words before after r → (limits : Limits) (left right proof : List ℕ)
-      → Asks words (Regex limits left right proof) → r ≡ status.Ok → StoresEquality left right proof before after start end
+  pub answers_equal : ProofsFound → GoalsBehave → AlikeMatch → IsQuietRun run.words run.before run.after r → (limits : Limits) (left right proof : List ℕ)
+      → Asks run.words (Regex limits left right proof) → r ≡ status.Ok → StoresEquality left right proof run
   answers_equal found behave alike q limits left right proof i e =
       let s = answers_succeed q e in
-      let P : Command → Type 0 = λ c. Succeeds c s.text s.stored before in
-      let a = subst P (same_command words s.command (Regex limits left right proof) s.asks i) s.succeeds in
+      let P : Command → Type 0 = λ c. Succeeds c s.text s.stored run.before in
+      let a = subst P (same_command run.words s.command (Regex limits left right proof) s.asks i) s.succeeds in
       let ok = search_ok LANG (conduct_with limits) proof (equality_goals a.e a.f) s.text s.stored a.ends in
       let says = found LANG a.well_formed (equality_goals a.e a.f) a.searchable (conduct_with limits) ok.p ok.search in
-      let H : Option Stored → Type 0 = λ x. HoldsAfter x before after in
-      let T : List ℕ → Type 0 = λ x. Prints x start end in
+      let H : Option Stored → Type 0 = λ x. HoldsAfter x run.before run.after in
+      let T : List ℕ → Type 0 = λ x. Prints x run.start run.end in
       let held = subst H ok.stored_is s.held in
       record {
         e = a.e;
@@ -339,18 +339,18 @@ module _ (words : List (List ℕ)) (before after : ShelfState) (start end : Sink
         prints = subst T ok.text_is s.prints;
       }
 
-  pub answers_told_apart : IsQuietRun words before after r → (limits : Limits) (theory script : List ℕ) (n : ℕ) → Asks words (Differ limits theory script)
-      → r ≡ status.Differ n → TellsApart theory script n before after start end
-  answers_told_apart q limits theory script n i e = ended r a.ends e (let P : Status → Type 0 = IsQuietRun words before after in subst P e q)
+  pub answers_told_apart : IsQuietRun run.words run.before run.after r → (limits : Limits) (theory script : List ℕ) (n : ℕ) → Asks run.words (Differ limits theory script)
+      → r ≡ status.Differ n → TellsApart theory script n run
+  answers_told_apart q limits theory script n i e = ended r a.ends e (let P : Status → Type 0 = IsQuietRun run.words run.before run.after in subst P e q)
     where
-      done : (c : Command) (d : Status) (text : List ℕ) (stored : Option Stored) → Asks words c → Comes c d text stored before → d ≡ status.Differ n
-          → Prints text start end → IsQuiet before after → TellsApart theory script n before after start end
+      done : (c : Command) (d : Status) (text : List ℕ) (stored : Option Stored) → Asks run.words c → Comes c d text stored run.before → d ≡ status.Differ n
+          → Prints text run.start run.end → IsQuiet run.before run.after → TellsApart theory script n run
       done c d text stored j x e p q =
-          let P : Command → Type 0 = λ y. Comes y d text stored before in
-          let Q : Status → Type 0 = λ y. IsDifferenceSought limits theory script (ending y text stored) before in
-          let w = (subst Q e (subst P (same_command words c (Differ limits theory script) j i) x)).done in
+          let P : Command → Type 0 = λ y. Comes y d text stored run.before in
+          let Q : Status → Type 0 = λ y. IsDifferenceSought limits theory script (ending y text stored) run.before in
+          let w = (subst Q e (subst P (same_command run.words c (Differ limits theory script) j i) x)).done in
           let y = told_apart w.th limits.steps limits.derives w.sc.blocks n text stored w.ends in
-          let T : List ℕ → Type 0 = λ z. Prints z start end in
+          let T : List ℕ → Type 0 = λ z. Prints z run.start run.end in
           record {
             th = w.th;
             sc = w.sc;
@@ -369,31 +369,31 @@ module _ (words : List (List ℕ)) (before after : ShelfState) (start end : Sink
             prints = subst T y.text_is p;
           }
 
-      go : (d : Status) (text : List ℕ) (stored : Option Stored) → DueAnswer words before after d text stored → (r : Status)
-          → Delivers text start end d r → r ≡ status.Differ n → IsQuiet before after → TellsApart theory script n before after start end
+      go : (d : Status) (text : List ℕ) (stored : Option Stored) → DueAnswer run.words run.before run.after d text stored → (r : Status)
+          → Delivers text run.start run.end d r → r ≡ status.Differ n → IsQuiet run.before run.after → TellsApart theory script n run
       go _ _ _ (no_command m) _ (whole p) e q = absurd (cc)
       go d text stored (work_done c _ _ _ j x) _ (whole p) e q = done c d text stored j x e p q
       go _ _ _ (refusal c s j f) _ (whole p) e q =
-          let P : Command → Type 0 = λ y. RefusesCommand y before after s in
-          absurd (script_not_apart to_differ theory script before after s n (subst P (same_command words c (Differ limits theory script) j i) f) e)
+          let P : Command → Type 0 = λ y. RefusesCommand y run.before run.after s in
+          absurd (script_not_apart to_differ theory script run.before run.after s n (subst P (same_command run.words c (Differ limits theory script) j i) f) e)
       go _ _ _ words_unread _ (whole p) e q = absurd (cc)
       go d text stored x _ (write_failed m some k rose p) e q = absurd (cc)
       go d text stored x _ (memory_wanted m p) e q = absurd (cc)
       go d text stored x _ (text_wanted p) e q = absurd (cc)
 
-      ended : (r : Status) → Ends before after start end a.answer a.text a.stored r → r ≡ status.Differ n → IsQuiet before after
-          → TellsApart theory script n before after start end
+      ended : (r : Status) → Ends run a.answer a.text a.stored r → r ≡ status.Differ n → IsQuiet run.before run.after
+          → TellsApart theory script n run
       ended r (stored_first _ h x) e q = go a.answer a.text a.stored a.due r x e q
-      ended r (not_stored _ u p) e q = absurd (let P : Status → Type 0 = IsUnstored u.file.name before after in subst P e u.why)
+      ended r (not_stored _ u p) e q = absurd (let P : Status → Type 0 = IsUnstored u.file.name run.before run.after in subst P e u.why)
 
-  pub answers_upgraded : IsQuietRun words before after r → (theory proof new : List ℕ) → Asks words (Upgrade theory proof new) → r ≡ status.Ok
-      → StoresUpgraded theory proof new before after start end
+  pub answers_upgraded : IsQuietRun run.words run.before run.after r → (theory proof new : List ℕ) → Asks run.words (Upgrade theory proof new) → r ≡ status.Ok
+      → StoresUpgraded theory proof new run
   answers_upgraded q theory proof new i e =
       let s = answers_succeed q e in
-      let P : Command → Type 0 = λ c. Succeeds c s.text s.stored before in
-      let a = subst P (same_command words s.command (Upgrade theory proof new) s.asks i) s.succeeds in
-      let H : Option Stored → Type 0 = λ x. HoldsAfter x before after in
-      let T : List ℕ → Type 0 = λ x. Prints x start end in
+      let P : Command → Type 0 = λ c. Succeeds c s.text s.stored run.before in
+      let a = subst P (same_command run.words s.command (Upgrade theory proof new) s.asks i) s.succeeds in
+      let H : Option Stored → Type 0 = λ x. HoldsAfter x run.before run.after in
+      let T : List ℕ → Type 0 = λ x. Prints x run.start run.end in
       let held = subst H a.stored_is s.held in
       record {
         th = a.th;
@@ -409,12 +409,12 @@ module _ (words : List (List ℕ)) (before after : ShelfState) (start end : Sink
         prints = subst T a.text_is s.prints;
       }
 
-  pub answers_written : IsQuietRun words before after r → (theory proof : List ℕ) (goal : ℕ) (derivatives : List ℕ)
-      → Asks words (Expand theory proof goal derivatives) → r ≡ status.Ok → WritesDerivation theory proof goal derivatives before after start end
+  pub answers_written : IsQuietRun run.words run.before run.after r → (theory proof : List ℕ) (goal : ℕ) (derivatives : List ℕ)
+      → Asks run.words (Expand theory proof goal derivatives) → r ≡ status.Ok → WritesDerivation theory proof goal derivatives run
   answers_written q theory proof goal derivatives i e =
       let s = answers_succeed q e in
-      let P : Command → Type 0 = λ c. Succeeds c s.text s.stored before in
-      let a = (subst P (same_command words s.command (Expand theory proof goal derivatives) s.asks i) s.succeeds).0 in
+      let P : Command → Type 0 = λ c. Succeeds c s.text s.stored run.before in
+      let a = (subst P (same_command run.words s.command (Expand theory proof goal derivatives) s.asks i) s.succeeds).0 in
       record {
         th = a.th;
         p = a.p;
@@ -427,104 +427,104 @@ module _ (words : List (List ℕ)) (before after : ShelfState) (start end : Sink
         prints = s.prints;
       }
 
-  pub answers_refused : IsQuietRun words before after r → (n : ℕ) → r ≡ status.Refused n → Rejects words before after start end n
-  answers_refused q n e = ended r a.ends e (quiet_refused before after words r n e q)
+  pub answers_refused : IsQuietRun run.words run.before run.after r → (n : ℕ) → r ≡ status.Refused n → Rejects run n
+  answers_refused q n e = ended r a.ends e (quiet_refused run.before run.after run.words r n e q)
     where
-      rejects : (c : Command) (s : Status) → Asks words c → RefusesCommand c before after s → s ≡ status.Refused n → Prints (refusal_text c s) start end
-          → IsQuiet before after
-          → Rejects words before after start end n
+      rejects : (c : Command) (s : Status) → Asks run.words c → RefusesCommand c run.before run.after s → s ≡ status.Refused n → Prints (refusal_text c s) run.start run.end
+          → IsQuiet run.before run.after
+          → Rejects run n
       rejects (Check report theory proof) s i f e p q =
-          let P : Status → Type 0 = λ x. Prints (refusal_text (Check report theory proof) x) start end in
-          record { theory = theory; proof = proof; asks = inl (report, i); refused = check_refused theory proof before after s n f e; quiet = q; prints = subst P e p }
-      rejects (Prove limits theory script proof) s i f e p q = absurd (script_not_refused to_prove theory script before after s n f e)
-      rejects (Show theory) s i f e p q = absurd (command_not_refused before after theory s n f e)
-      rejects (Contexts budget theory) s i f e p q = absurd (file_fault_not_refused 1 theory TheoryRefusal before after s n e f)
-      rejects (Reduce budget theory script) s i f e p q = absurd (reduce_not_refused budget theory script before after s n f e)
-      rejects (Same first second) s i f e p q = absurd (same_not_refused first second before after s n f e)
-      rejects (Differ limits theory script) s i f e p q = absurd (script_not_refused to_differ theory script before after s n f e)
-      rejects (Trace limits theory script) s i f e p q = absurd (script_not_refused to_prove theory script before after s n f e)
+          let P : Status → Type 0 = λ x. Prints (refusal_text (Check report theory proof) x) run.start run.end in
+          record { theory = theory; proof = proof; asks = inl (report, i); refused = check_refused theory proof run.before run.after s n f e; quiet = q; prints = subst P e p }
+      rejects (Prove limits theory script proof) s i f e p q = absurd (script_not_refused to_prove theory script run.before run.after s n f e)
+      rejects (Show theory) s i f e p q = absurd (command_not_refused run.before run.after theory s n f e)
+      rejects (Contexts budget theory) s i f e p q = absurd (file_fault_not_refused 1 theory TheoryRefusal run.before run.after s n e f)
+      rejects (Reduce budget theory script) s i f e p q = absurd (reduce_not_refused budget theory script run.before run.after s n f e)
+      rejects (Same first second) s i f e p q = absurd (same_not_refused first second run.before run.after s n f e)
+      rejects (Differ limits theory script) s i f e p q = absurd (script_not_refused to_differ theory script run.before run.after s n f e)
+      rejects (Trace limits theory script) s i f e p q = absurd (script_not_refused to_prove theory script run.before run.after s n f e)
       rejects (Regex limits left right proof) s i f e p q = absurd (regex_not_refused left right s n f e)
-      rejects (Upgrade theory proof new) s i f e p q = absurd (upgrade_not_refused theory proof before after s n f e)
+      rejects (Upgrade theory proof new) s i f e p q = absurd (upgrade_not_refused theory proof run.before run.after s n f e)
       rejects (Expand theory proof goal derivatives) s i f e p q =
-          let P : Status → Type 0 = λ x. Prints (refusal_text (Expand theory proof goal derivatives) x) start end in
+          let P : Status → Type 0 = λ x. Prints (refusal_text (Expand theory proof goal derivatives) x) run.start run.end in
           record {
             theory = theory;
             proof = proof;
             asks = inr (goal, derivatives, i);
-            refused = expand_refused theory proof goal derivatives before after s n f e;
+            refused = expand_refused theory proof goal derivatives run.before run.after s n f e;
             quiet = q;
             prints = subst P e p;
           }
       rejects (Library text) s i f e p q = absurd (let never : status.Memory ≡ status.Refused n = sym f ∙ e in cc)
       rejects (Generate k) s i f e p q = absurd (let never : status.Memory ≡ status.Refused n = sym f ∙ e in cc)
 
-      go : (d : Status) (text : List ℕ) (stored : Option Stored) → DueAnswer words before after d text stored
-          → (r : Status) → Delivers text start end d r → r ≡ status.Refused n → IsQuiet before after → Rejects words before after start end n
+      go : (d : Status) (text : List ℕ) (stored : Option Stored) → DueAnswer run.words run.before run.after d text stored
+          → (r : Status) → Delivers text run.start run.end d r → r ≡ status.Refused n → IsQuiet run.before run.after → Rejects run n
       go _ _ _ (no_command m) _ (whole p) e q = absurd (cc)
-      go d text stored (work_done c _ _ _ i s) _ (whole p) e q = absurd (not_work_end before c d (status.Refused n) text stored s e (λ x. x))
+      go d text stored (work_done c _ _ _ i s) _ (whole p) e q = absurd (not_work_end run.before c d (status.Refused n) text stored s e (λ x. x))
       go _ _ _ (refusal c s i f) _ (whole p) e q = rejects c s i f e p q
       go _ _ _ words_unread _ (whole p) e q = absurd (cc)
       go d text stored x _ (write_failed m some i rose p) e q = absurd (cc)
       go d text stored x _ (memory_wanted m p) e q = absurd (cc)
       go d text stored x _ (text_wanted p) e q = absurd (cc)
 
-      ended : (r : Status) → Ends before after start end a.answer a.text a.stored r → r ≡ status.Refused n → IsQuiet before after
-          → Rejects words before after start end n
+      ended : (r : Status) → Ends run a.answer a.text a.stored r → r ≡ status.Refused n → IsQuiet run.before run.after
+          → Rejects run n
       ended r (stored_first _ h x) e q = go a.answer a.text a.stored a.due r x e q
-      ended r (not_stored _ u p) e q = absurd (let P : Status → Type 0 = IsUnstored u.file.name before after in subst P e u.why)
+      ended r (not_stored _ u p) e q = absurd (let P : Status → Type 0 = IsUnstored u.file.name run.before run.after in subst P e u.why)
 
-  pub answers_read_fault : (n : ℕ) → r ≡ status.ReadFault n → IsReadFault words before after start end n
+  pub answers_read_fault : (n : ℕ) → r ≡ status.ReadFault n → IsReadFault run n
   answers_read_fault n = ended r a.ends
     where
-      go : (d : Status) (text : List ℕ) (stored : Option Stored) → DueAnswer words before after d text stored
-          → (r : Status) → Delivers text start end d r → r ≡ status.ReadFault n → IsReadFault words before after start end n
+      go : (d : Status) (text : List ℕ) (stored : Option Stored) → DueAnswer run.words run.before run.after d text stored
+          → (r : Status) → Delivers text run.start run.end d r → r ≡ status.ReadFault n → IsReadFault run n
       go _ _ _ (no_command m) _ (whole p) e = absurd (cc)
-      go d text stored (work_done c _ _ _ i s) _ (whole p) e = absurd (not_work_end before c d (status.ReadFault n) text stored s e (λ x. x))
+      go d text stored (work_done c _ _ _ i s) _ (whole p) e = absurd (not_work_end run.before c d (status.ReadFault n) text stored s e (λ x. x))
       go _ _ _ (refusal c s i f) _ (whole p) e =
-          let u = unread_command before after c s n f e in
-          let P : Status → Type 0 = λ x. Prints (refusal_text c x) start end in
+          let u = unread_command run.before run.after c s n f e in
+          let P : Status → Type 0 = λ x. Prints (refusal_text c x) run.start run.end in
           record { command = c; asks = i; unread = u.1; counted = u.0; nothing = subst P e p }
       go _ _ _ words_unread _ (whole p) e = absurd (cc)
       go d text stored x _ (write_failed m some i rose p) e = absurd (cc)
       go d text stored x _ (memory_wanted m p) e = absurd (cc)
       go d text stored x _ (text_wanted p) e = absurd (cc)
 
-      ended : (r : Status) → Ends before after start end a.answer a.text a.stored r → r ≡ status.ReadFault n → IsReadFault words before after start end n
+      ended : (r : Status) → Ends run a.answer a.text a.stored r → r ≡ status.ReadFault n → IsReadFault run n
       ended r (stored_first _ h x) e = go a.answer a.text a.stored a.due r x e
-      ended r (not_stored _ u p) e = absurd (let P : Status → Type 0 = IsUnstored u.file.name before after in subst P e u.why)
+      ended r (not_stored _ u p) e = absurd (let P : Status → Type 0 = IsUnstored u.file.name run.before run.after in subst P e u.why)
 
-  pub answers_past_limit : (file n : ℕ) → r ≡ status.TooLong file n → IsPastLimit words before file n
+  pub answers_past_limit : (file n : ℕ) → r ≡ status.TooLong file n → IsPastLimit run.words run.before file n
   answers_past_limit file n = ended r a.ends
     where
-      go : (d : Status) (text : List ℕ) (stored : Option Stored) → DueAnswer words before after d text stored
-          → (r : Status) → Delivers text start end d r → r ≡ status.TooLong file n → IsPastLimit words before file n
+      go : (d : Status) (text : List ℕ) (stored : Option Stored) → DueAnswer run.words run.before run.after d text stored
+          → (r : Status) → Delivers text run.start run.end d r → r ≡ status.TooLong file n → IsPastLimit run.words run.before file n
       go _ _ _ (no_command m) _ (whole p) e = absurd (cc)
       go d text stored (work_done c _ _ _ i s) _ (whole p) e =
-          record { command = c; asks = i; past = inr (work_past before c d text stored file n s e) }
-      go _ _ _ (refusal c s i f) _ (whole p) e = record { command = c; asks = i; past = inl (past_command before after c s file n f e) }
+          record { command = c; asks = i; past = inr (work_past run.before c d text stored file n s e) }
+      go _ _ _ (refusal c s i f) _ (whole p) e = record { command = c; asks = i; past = inl (past_command run.before run.after c s file n f e) }
       go _ _ _ words_unread _ (whole p) e = absurd (cc)
       go d text stored x _ (write_failed m some i rose p) e = absurd (cc)
       go d text stored x _ (memory_wanted m p) e = absurd (cc)
       go d text stored x _ (text_wanted p) e = absurd (cc)
 
-      ended : (r : Status) → Ends before after start end a.answer a.text a.stored r → r ≡ status.TooLong file n → IsPastLimit words before file n
+      ended : (r : Status) → Ends run a.answer a.text a.stored r → r ≡ status.TooLong file n → IsPastLimit run.words run.before file n
       ended r (stored_first _ h x) e = go a.answer a.text a.stored a.due r x e
-      ended r (not_stored _ u p) e = absurd (let P : Status → Type 0 = IsUnstored u.file.name before after in subst P e u.why)
+      ended r (not_stored _ u p) e = absurd (let P : Status → Type 0 = IsUnstored u.file.name run.before run.after in subst P e u.why)
 
-  pub answers_write_fault : (n : ℕ) → r ≡ status.WriteFault n → IsWriteFault words before after start end n
+  pub answers_write_fault : (n : ℕ) → r ≡ status.WriteFault n → IsWriteFault run n
   answers_write_fault n = ended r a.ends
     where
-      with_text : (d : Status) (text : List ℕ) (stored : Option Stored) → text ≢ [] → DueIs words before after d text stored
-          → Outcome words before.holds d text stored
+      with_text : (d : Status) (text : List ℕ) (stored : Option Stored) → text ≢ [] → DueIs run.words run.before run.after d text stored
+          → Outcome run.words run.before.holds d text stored
       with_text d text stored some (outcome _ _ _ c) = c
       with_text _ _ _ some (nothing_read m) = absurd (some refl)
       with_text _ _ _ some no_memory_left = absurd (some refl)
 
-      go : (d : Status) (text : List ℕ) (stored : Option Stored) → DueAnswer words before after d text stored → HoldsAfter stored before after
-          → (r : Status) → Delivers text start end d r → r ≡ status.WriteFault n → IsUnwritten words before after start end n
+      go : (d : Status) (text : List ℕ) (stored : Option Stored) → DueAnswer run.words run.before run.after d text stored → HoldsAfter stored run.before run.after
+          → (r : Status) → Delivers text run.start run.end d r → r ≡ status.WriteFault n → IsUnwritten run n
       go _ _ _ (no_command m) h _ (whole p) e = absurd (cc)
-      go d text stored (work_done c _ _ _ i s) h _ (whole p) e = absurd (not_work_end before c d (status.WriteFault n) text stored s e (λ x. x))
-      go _ _ _ (refusal c s i f) h _ (whole p) e = absurd (unwritten_command before after c s n f e)
+      go d text stored (work_done c _ _ _ i s) h _ (whole p) e = absurd (not_work_end run.before c d (status.WriteFault n) text stored s e (λ x. x))
+      go _ _ _ (refusal c s i f) h _ (whole p) e = absurd (unwritten_command run.before run.after c s n f e)
       go _ _ _ words_unread h _ (whole p) e = absurd (cc)
       go d text stored x h _ (write_failed m some c rose p) e =
           let same : m ≡ n = cc in
@@ -532,7 +532,7 @@ module _ (words : List (List ℕ)) (before after : ShelfState) (start end : Sink
             outcome = d;
             text = text;
             stored = stored;
-            due = λ t. with_text d text stored some (due_is words before after d text stored t x);
+            due = λ t. with_text d text stored some (due_is run.words run.before run.after d text stored t x);
             held = h;
             rose = rose;
             counted = sym same ∙ c;
@@ -541,28 +541,28 @@ module _ (words : List (List ℕ)) (before after : ShelfState) (start end : Sink
       go d text stored x h _ (memory_wanted m p) e = absurd (cc)
       go d text stored x h _ (text_wanted p) e = absurd (cc)
 
-      ended : (r : Status) → Ends before after start end a.answer a.text a.stored r → r ≡ status.WriteFault n → IsWriteFault words before after start end n
+      ended : (r : Status) → Ends run a.answer a.text a.stored r → r ≡ status.WriteFault n → IsWriteFault run n
       ended r (stored_first _ h x) e = inl (go a.answer a.text a.stored a.due h r x e)
       ended r (not_stored _ u p) e =
-          let P : Status → Type 0 = IsUnstored u.file.name before after in
+          let P : Status → Type 0 = IsUnstored u.file.name run.before run.after in
           let w = subst P e u.why in
-          let by = stored_by words before after a.answer a.text a.stored u.file a.due u.is in
-          let put : FailsToPut words before after = record { command = by.command; asks = by.asks; name = u.file.name; named = by.named; struck = w.1 } in
+          let by = stored_by run.words run.before run.after a.answer a.text a.stored u.file a.due u.is in
+          let put : FailsToPut run.words run.before run.after = record { command = by.command; asks = by.asks; name = u.file.name; named = by.named; struck = w.1 } in
           inr (record { put = put; others = u.others; counted = w.0; nothing = p })
 
   -- no name changes but the one under which the command stores
-  pub answers_hold : (n : List ℕ) → IsNotStored words n → after.holds n ≡ before.holds n
+  pub answers_hold : (n : List ℕ) → IsNotStored run.words n → run.after.holds n ≡ run.before.holds n
   answers_hold n not = ended a.ends
     where
       other : (x : Stored) → a.stored ≡ Some x → n ≢ x.name
       other x e same =
-          let by = stored_by words before after a.answer a.text a.stored x a.due e in not by.command by.asks (by.named ∙ ap Some (sym same))
+          let by = stored_by run.words run.before run.after a.answer a.text a.stored x a.due e in not by.command by.asks (by.named ∙ ap Some (sym same))
 
-      go : (stored : Option Stored) → a.stored ≡ stored → HoldsAfter stored before after → after.holds n ≡ before.holds n
+      go : (stored : Option Stored) → a.stored ≡ stored → HoldsAfter stored run.before run.after → run.after.holds n ≡ run.before.holds n
       go None e h = h n
       go (Some x) e h = h.1 n (other x e)
 
-      ended : Ends before after start end a.answer a.text a.stored r → after.holds n ≡ before.holds n
+      ended : Ends run a.answer a.text a.stored r → run.after.holds n ≡ run.before.holds n
       ended (stored_first _ h x) = go a.stored refl h
       ended (not_stored _ u p) = u.others.others n (other u.file u.is)
 

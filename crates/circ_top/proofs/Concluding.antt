@@ -10,6 +10,7 @@ use Rattle.circ_files.proofs.FileFaults.{quiet_after}
 use Rattle.circ_files.specs.Ending.{Stored}
 use Rattle.circ_top.specs.Answer.{DueAnswer}
 use Rattle.circ_top.specs.Causes.{IsQuietRun}
+use Rattle.circ_top.specs.Run.{run_of}
 use Rattle.circ_top.specs.Storing.{HoldsAfter, IsUnstored, FailsToStore, Ends, stored_first, not_stored, IsQuietEnd}
 use Rattle.circ_top.proofs.Answers.{stored_by}
 
@@ -38,10 +39,10 @@ module _ (before middle after : ShelfState) (frame : ShelfFrame before middle) (
     };
   }
 
-  pub ends_since : (start end : SinkState) (d : Status) (text : List ℕ) (stored : Option Stored) (r : Status)
-      → Ends middle after start end d text stored r → Ends before after start end d text stored r
-  ends_since start end d text stored r (stored_first _ h x) = stored_first r (holds_since stored h) x
-  ends_since start end d text stored r (not_stored _ u p) = not_stored r (fails_since stored r u) p
+  pub ends_since : (words : List (List ℕ)) (start end : SinkState) (d : Status) (text : List ℕ) (stored : Option Stored) (r : Status)
+      → Ends (run_of words middle after start end) d text stored r → Ends (run_of words before after start end) d text stored r
+  ends_since words start end d text stored r (stored_first _ h x) = stored_first r (holds_since stored h) x
+  ends_since words start end d text stored r (not_stored _ u p) = not_stored r (fails_since stored r u) p
 
   -- what was stored is the file of the words' command
   pub quiet_run : (words : List (List ℕ)) (other : ShelfState) (d : Status) (text : List ℕ) (stored : Option Stored) (r : Status)

@@ -21,6 +21,7 @@ pub mod UpgradeOutcomes
 pub mod ExpandOutcomes
 pub mod Outcomes
 pub mod Answers
+pub mod Promising
 pub mod Concluding
 pub mod StoredProofs
 pub mod UpgradedChecks

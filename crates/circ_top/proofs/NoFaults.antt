@@ -3,12 +3,14 @@ use Rattle.std.proofs.Common.{◌≡◌, ℕ, List, ◌⊎◌, inl, inr, true, r
 use Rattle.std.specs.Prelude.{IsSome}
 use Rattle.circ_outer.specs.Count.{Rose}
 use Rattle.circ_outer.specs.Shelf.{ShelfState}
-use Rattle.circ_outer.specs.Sink.{SinkState}
-use Rattle.circ_top.specs.Causes.{IsOutcomeOrFault, AnswersOutcome, printed, not_read, not_written, not_put, no_memory, AtFile, IsReadFault, IsWriteFault}
+use Rattle.circ_top.specs.Causes.{IsOutcomeOrFault, AnswersOutcome, printed, not_read, not_written, not_put, no_memory, AtFile, IsWriteFault}
 use Rattle.circ_top.specs.Command.{Command, Check, Prove, Show, Contexts, Reduce, Same, Differ, Trace, Regex, Upgrade, Expand, Library, Generate}
 use Rattle.circ_files.specs.Files.{IsUnread}
 use Rattle.circ_top.specs.InMemory.{HoldsFilesOf, HoldsFiles, AppendsAnswer, Appends}
 use Rattle.circ_files.specs.Ending.{Stored}
+use Rattle.circ_top.specs.Outcome.{Outcome}
+use Rattle.circ_top.specs.Promises.{Promises}
+use Rattle.circ_top.specs.Run.{Run}
 use Rattle.circ_files.specs.declared.status.Status.{Status}
 use Rattle.circ_files.specs.declared.status.Status.TheVariants as status
 use Rattle.circ_files.proofs.FileFaults.{unread_rose}
@@ -45,29 +47,41 @@ held_file before after (Expand theory proof goal derivatives) quiet h (inr u) = 
 held_file before after (Library text) quiet h u = u
 held_file before after (Generate n) quiet h u = u
 
-module _ (before after : ShelfState) (start end : SinkState) where
-  pub always_read : (words : List (List ℕ)) (n : ℕ) → (Rose before.count after.count → ⊥) → HoldsFiles words before.holds
-      → IsReadFault words before after start end n → ⊥
-  always_read words n quiet held f = held_file before after f.command quiet (held f.command f.asks) f.unread
+-- an answer without a fault, by the text that a sink that tells got
+appends : (run : Run) (r : Status) → run.start.tells ≡ true → ((n : ℕ) → r ≡ status.ReadFault n → ⊥) → ((n : ℕ) → r ≡ status.WriteFault n → ⊥)
+    → IsOutcomeOrFault run r → Appends run r
+appends run (status.ReadFault n) t f g c = absurd (f n refl)
+appends run (status.WriteFault n) t f g c = absurd (g n refl)
+appends run status.Memory t f g c = tt
+appends run r t f g c = record { text = c.text; stored = c.stored; outcome = c.outcome; held = c.held; appended = c.prints.printed t }
 
-  pub sure_outcome : (words : List (List ℕ)) (r : Status) → start.tells ≡ true → ((n : ℕ) → r ≡ status.ReadFault n → ⊥)
-      → ((n : ℕ) → r ≡ status.WriteFault n → ⊥)
-      → IsOutcomeOrFault words before after start end r → Appends words before after start end r
-  sure_outcome words (status.ReadFault n) t f g c = absurd (f n refl)
-  sure_outcome words (status.WriteFault n) t f g c = absurd (g n refl)
-  sure_outcome words status.Memory t f g c = tt
-  sure_outcome words r t f g c = record { text = c.text; stored = c.stored; outcome = c.outcome; held = c.held; appended = c.prints.printed t }
+appends_answer : (run : Run) (s r : Status) (text : List ℕ) (stored : Option Stored) → run.start.tells ≡ true
+    → (Rose run.before.count run.after.count → ⊥) → (Rose run.start.count run.end.count → ⊥) → AnswersOutcome run s text stored r
+    → AppendsAnswer run s text stored r ⊎ (r ≡ status.Memory)
+appends_answer run s r text stored t f g (printed _ given l h p) = inl (record { given = given; like = l; held = h; appended = p.printed t })
+appends_answer run s _ text stored t f g (not_read n rose p) = absurd (f rose)
+appends_answer run s _ text stored t f g (not_written n rose h p) = absurd (g rose)
+appends_answer run s _ text stored t f g (not_put n x e c k o p) = absurd (f k.rose)
+appends_answer run s _ text stored t f g (no_memory p) = inr refl
 
-  pub sure_answer : (s r : Status) (text : List ℕ) (stored : Option Stored) → start.tells ≡ true → (Rose before.count after.count → ⊥)
-      → (Rose start.count end.count → ⊥)
-      → AnswersOutcome before after start end s text stored r → AppendsAnswer before after start end s text stored r ⊎ (r ≡ status.Memory)
-  sure_answer s r text stored t f g (printed _ given l h p) = inl (record { given = given; like = l; held = h; appended = p.printed t })
-  sure_answer s _ text stored t f g (not_read n rose p) = absurd (f rose)
-  sure_answer s _ text stored t f g (not_written n rose h p) = absurd (g rose)
-  sure_answer s _ text stored t f g (not_put n x e c k o p) = absurd (f k.rose)
-  sure_answer s _ text stored t f g (no_memory p) = inr refl
+-- what is promised of a run, where the shelf's count of faults stays
+module _ (run : Run) (r : Status) (said : Promises run r) (quiet : Rose run.before.count run.after.count → ⊥) where
+  pub always_read : HoldsFiles run.words run.before.holds → (n : ℕ) → r ≡ status.ReadFault n → ⊥
+  always_read held n e = let f = said.read_fault n e in held_file run.before run.after f.command quiet (held f.command f.asks) f.unread
 
-  pub always_written : (words : List (List ℕ)) (n : ℕ) → (Rose before.count after.count → ⊥) → (Rose start.count end.count → ⊥)
-      → IsWriteFault words before after start end n → ⊥
-  always_written words n quiet sure (inl u) = sure u.rose
-  always_written words n quiet sure (inr u) = quiet u.put.struck.rose
+  -- and the sink's too
+  module _ (sure : Rose run.start.count run.end.count → ⊥) where
+    pub always_written : (n : ℕ) → r ≡ status.WriteFault n → ⊥
+    always_written n e = go (said.write_fault n e)
+      where
+        go : IsWriteFault run n → ⊥
+        go (inl u) = sure u.rose
+        go (inr u) = quiet u.put.struck.rose
+
+    -- and where both tell
+    pub sure_outcome : run.before.tells ≡ true → run.start.tells ≡ true → HoldsFiles run.words run.before.holds → Appends run r
+    sure_outcome t u held = appends run r u (always_read held) always_written (said.outcome t)
+
+    pub sure_answer : run.before.tells ≡ true → run.start.tells ≡ true → (s : Status) (text : List ℕ) (stored : Option Stored)
+        → Outcome run.words run.before.holds s text stored → AppendsAnswer run s text stored r ⊎ (r ≡ status.Memory)
+    sure_answer t u s text stored c = appends_answer run s r text stored u quiet sure (said.complete t s text stored c)

@@ -1,7 +1,6 @@
 -- What the answer that is due says of the outcome, and the other way.
 use Rattle.std.proofs.Common.{◌≡◌, ℕ, List, refl, sym, ◌∙◌, subst, true, Option, None}
 use Rattle.circ_outer.specs.Shelf.{ShelfState}
-use Rattle.circ_outer.specs.Sink.{SinkState}
 use Rattle.circ_top.specs.Answer.{Comes, RefusesCommand, DueAnswer, no_command, work_done, refusal, words_unread, AnswersDue}
 use Rattle.circ_reports.specs.Check.{CheckOutcome}
 use Rattle.circ_reports.specs.Reduce.{ReduceOutcome}
@@ -12,6 +11,7 @@ use Rattle.circ_top.specs.Delivery.{Delivers, whole, write_failed, memory_wanted
 use Rattle.circ_files.specs.Like.{IsLike, itself}
 use Rattle.circ_files.specs.Ending.{Stored}
 use Rattle.circ_top.specs.Outcome.{OutcomeOf, Outcome, usage, command}
+use Rattle.circ_top.specs.Run.{Run}
 use Rattle.circ_top.specs.Storing.{HoldsAfter, IsUnstored, Ends, stored_first, not_stored}
 use Rattle.circ_top.specs.Refusals.{usage_text, refusal_text}
 use Rattle.circ_files.specs.declared.status.Status.{Status}
@@ -210,48 +210,47 @@ module _ (once : ReadsOnce) (proofs : ProofsOnce) (scripts : ScriptsOnce) (autom
       refusal_agrees d s r text stored (subst P (same_command words c d i j) x) f
   due_agrees s _ text _ stored _ x words_unread = memory_with
 
-  pub answers_come : (start end : SinkState) (r : Status) → AnswersDue words before after start end r → (s : Status) (text : List ℕ) (stored : Option Stored)
-      → Outcome words before.holds s text stored → AnswersOutcome before after start end s text stored r
-  answers_come start end r a s text stored c =
-      agree_answers before after start end s text stored a.stored a.answer r a.text (due_agrees s a.answer text a.text stored a.stored c a.due) a.ends
+-- what is answered where this is the outcome
+module _ (once : ReadsOnce) (proofs : ProofsOnce) (scripts : ScriptsOnce) (automata : AutomataOnce) (expressions : ExpressionsOnce)
+    (searches : SearchesOnce) (printed_once : PrintsOnce) (run : Run) (r : Status) (a : AnswersDue run r) (t : run.before.tells ≡ true) where
+  pub answers_come : (s : Status) (text : List ℕ) (stored : Option Stored) → Outcome run.words run.before.holds s text stored
+      → AnswersOutcome run s text stored r
+  answers_come s text stored c =
+      agree_answers run s text stored a.stored a.answer r a.text
+      (due_agrees once proofs scripts automata expressions searches printed_once run.words run.before run.after t s a.answer text a.text stored a.stored c a.due)
+      a.ends
 
-  pub answers_memory : (start end : SinkState) (r : Status) → AnswersDue words before after start end r → (s : Status) (text : List ℕ) (stored : Option Stored)
-      → Outcome words before.holds s text stored → PrintsPartOf s text start end
-  answers_memory start end r a s text stored c = answers_part before after start end s text stored r (answers_come start end r a s text stored c)
+  pub answers_memory : (s : Status) (text : List ℕ) (stored : Option Stored) → Outcome run.words run.before.holds s text stored
+      → PrintsPartOf s text run.start run.end
+  answers_memory s text stored c = answers_part run s text stored r (answers_come s text stored c)
 
 -- the answer is an outcome
-printed_outcome : (words : List (List ℕ)) (before after : ShelfState) (start end : SinkState) (s : Status) → PrintsOutcome words before after start end s
-    → IsOutcomeOrFault words before after start end s
-printed_outcome words before after start end (status.ReadFault n) p = tt
-printed_outcome words before after start end (status.WriteFault n) p = tt
-printed_outcome words before after start end status.Memory p = tt
-printed_outcome words before after start end s p = p
+printed_outcome : (run : Run) (s : Status) → PrintsOutcome run s → IsOutcomeOrFault run s
+printed_outcome run (status.ReadFault n) p = tt
+printed_outcome run (status.WriteFault n) p = tt
+printed_outcome run status.Memory p = tt
+printed_outcome run s p = p
 
 -- an answer that is not that of the work is a fault
-unstored_fault : (words : List (List ℕ)) (before after : ShelfState) (start end : SinkState) (name : List ℕ) (r : Status) → IsUnstored name before after r
-    → IsOutcomeOrFault words before after start end r
-unstored_fault words before after start end name (status.WriteFault n) u = tt
-unstored_fault words before after start end name status.Memory u = tt
-unstored_fault words before after start end name r u = absurd u
+unstored_fault : (run : Run) (name : List ℕ) (r : Status) → IsUnstored name run.before run.after r → IsOutcomeOrFault run r
+unstored_fault run name (status.WriteFault n) u = tt
+unstored_fault run name status.Memory u = tt
+unstored_fault run name r u = absurd u
 
-pub answers_outcome : (words : List (List ℕ)) (before after : ShelfState) (start end : SinkState) (r : Status) → AnswersDue words before after start end r
-    → before.tells ≡ true
-    → IsOutcomeOrFault words before after start end r
-answers_outcome words before after start end r a t =
-    ended a.answer r a.text a.stored (due_is words before after a.answer a.text a.stored t a.due) a.ends
+pub answers_outcome : (run : Run) (r : Status) → AnswersDue run r → run.before.tells ≡ true → IsOutcomeOrFault run r
+answers_outcome run r a t = ended a.answer r a.text a.stored (due_is run.words run.before run.after a.answer a.text a.stored t a.due) a.ends
   where
-    go : (d r : Status) (text : List ℕ) (stored : Option Stored) → DueIs words before after d text stored → HoldsAfter stored before after
-        → Delivers text start end d r
-        → IsOutcomeOrFault words before after start end r
+    go : (d r : Status) (text : List ℕ) (stored : Option Stored) → DueIs run.words run.before run.after d text stored → HoldsAfter stored run.before run.after
+        → Delivers text run.start run.end d r → IsOutcomeOrFault run r
     go d _ text stored (outcome _ _ _ c) h (whole p) =
-        printed_outcome words before after start end d (record { text = text; stored = stored; outcome = c; held = h; prints = p })
+        printed_outcome run d (record { text = text; stored = stored; outcome = c; held = h; prints = p })
     go _ _ _ _ (nothing_read n) h (whole p) = tt
     go _ _ _ _ no_memory_left h (whole p) = tt
     go d _ text stored x h (write_failed n some c rose p) = tt
     go d _ text stored x h (memory_wanted q p) = tt
     go d _ text stored x h (text_wanted p) = tt
 
-    ended : (d r : Status) (text : List ℕ) (stored : Option Stored) → DueIs words before after d text stored
-        → Ends before after start end d text stored r → IsOutcomeOrFault words before after start end r
+    ended : (d r : Status) (text : List ℕ) (stored : Option Stored) → DueIs run.words run.before run.after d text stored → Ends run d text stored r
+        → IsOutcomeOrFault run r
     ended d r text stored x (stored_first _ h y) = go d r text stored x h y
-    ended d r text stored x (not_stored _ u p) = unstored_fault words before after start end u.file.name r u.why
+    ended d r text stored x (not_stored _ u p) = unstored_fault run u.file.name r u.why

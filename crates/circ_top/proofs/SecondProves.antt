@@ -2,7 +2,6 @@
 use Rattle.std.proofs.Common.{◌≡◌, ◌≢◌, ◌↔◌, ℕ, List, refl, sym, ap, ◌∙◌, subst, Option, Some, None}
 use Rattle.std.proofs.lemmas.Option.{same_Some}
 use Rattle.circ_outer.specs.Shelf.{ShelfState}
-use Rattle.circ_outer.specs.Sink.{SinkState}
 use Rattle.circ_theory.specs.Theory.{Theory}
 use Rattle.circ_script.specs.Script.{Script}
 use Rattle.circ_script.specs.ReadsAsScript.{ReadsAsScript}
@@ -20,6 +19,7 @@ use Rattle.circ_top.specs.Command.{Command, Prove, Asks, IsNotStored, stored_nam
 use Rattle.circ_top.specs.SecondProve.{AsksAgain}
 use Rattle.circ_top.specs.Outcome.{OutcomeOf, Outcome, usage, command}
 use Rattle.circ_top.specs.Prove.{ProveOutcome}
+use Rattle.circ_top.specs.Run.{Run}
 use Rattle.circ_top.specs.Scripted.{no_theory, no_script, goals_done}
 use Rattle.circ_top.specs.Refusals.{refusal_text}
 use Rattle.circ_top.proofs.Requests.{same_command}
@@ -103,7 +103,10 @@ module _ (words second : List (List ℕ)) (before after : ShelfState) (a : AsksA
       → Outcome words before.holds s text stored ↔ Outcome second after.holds s text stored
   behind_any_run kept = same_outcome (λ n apart. kept n (λ c i e. apart (stores_proof c n i e)))
 
-  pub behind_failed_puts : (start end : SinkState) (m : ℕ) → IsNotPut words before after start end m → (s : Status) (text : List ℕ) (stored : Option Stored)
-      → Outcome words before.holds s text stored ↔ Outcome second after.holds s text stored
-  behind_failed_puts start end m f =
-      same_outcome (λ n apart. f.others.others n (λ e. apart (e ∙ stores_proof f.put.command f.put.name f.put.asks f.put.named)))
+-- behind a run whose proof was not stored
+pub behind_failed_puts : (second : List (List ℕ)) (run : Run) → AsksAgain run.words second run.before.holds → (m : ℕ) → IsNotPut run m
+    → (s : Status) (text : List ℕ) (stored : Option Stored) → Outcome run.words run.before.holds s text stored ↔ Outcome second run.after.holds s text stored
+behind_failed_puts second run a m f =
+    let named = stores_proof run.words second run.before run.after a in
+    same_outcome run.words second run.before run.after a
+    (λ n apart. f.others.others n (λ e. apart (e ∙ named f.put.command f.put.name f.put.asks f.put.named)))

@@ -1,7 +1,6 @@
 -- What a run answers: each answer with its cause and its text (`AnswersDue`).
 use Rattle.std.specs.Prelude.{◌≡◌, ℕ, List, [], Option, None}
 use Rattle.circ_outer.specs.Shelf.{ShelfState, IsQuiet}
-use Rattle.circ_outer.specs.Sink.{SinkState}
 use Rattle.circ_reports.specs.Contexts.{IsListed}
 use Rattle.circ_generate.specs.Generating.{Generates}
 use Rattle.circ_reports.specs.Check.{IsAccepted, RefusesCheck}
@@ -15,6 +14,7 @@ use Rattle.circ_top.specs.Prove.{IsSearched}
 use Rattle.circ_top.specs.Scripted.{to_prove, to_differ, RefusesScript}
 use Rattle.circ_top.specs.Trace.{IsTraced}
 use Rattle.circ_reports.specs.Reduce.{IsReduced, RefusesReduce}
+use Rattle.circ_top.specs.Run.{Run}
 use Rattle.circ_top.specs.Regex.{IsEqualitySearched, RefusesRegex}
 use Rattle.circ_reports.specs.Same.{IsCompared, RefusesSame}
 use Rattle.circ_reports.specs.Show.{IsShown}
@@ -80,20 +80,20 @@ pub data DueAnswer (words : List (List ℕ)) (before after : ShelfState) : Statu
 
 -- What a run answers: the answer that is due, with its file stored and its text printed; or that the file was not stored; or a part of the text, and that the
 -- sink failed or memory ran out.
-pub record AnswersDue (words : List (List ℕ)) (before after : ShelfState) (start end : SinkState) (s : Status) : Type 0 where
+pub record AnswersDue (run : Run) (s : Status) : Type 0 where
   pub answer : Status
   pub text : List ℕ
   pub stored : Option Stored
-  pub due : DueAnswer words before after answer text stored
-  pub ends : Ends before after start end answer text stored s
+  pub due : DueAnswer run.words run.before run.after answer text stored
+  pub ends : Ends run answer text stored s
 
 -- Status 0: the words are those of a command that succeeds, its text was printed, and the outside did not fail.
-pub record Succeeded (words : List (List ℕ)) (before after : ShelfState) (start end : SinkState) : Type 0 where
+pub record Succeeded (run : Run) : Type 0 where
   pub command : Command
   pub text : List ℕ
   pub stored : Option Stored
-  pub asks : Asks words command
-  pub succeeds : Succeeds command text stored before
-  pub held : HoldsAfter stored before after
-  pub quiet : IsQuiet before after
-  pub prints : Prints text start end
+  pub asks : Asks run.words command
+  pub succeeds : Succeeds command text stored run.before
+  pub held : HoldsAfter stored run.before run.after
+  pub quiet : IsQuiet run.before run.after
+  pub prints : Prints text run.start run.end

@@ -13,6 +13,7 @@ use Rattle.circ_generate.specs.Generating.{Generates}
 use Rattle.circ_top.specs.Outcome.{Outcome}
 use Rattle.circ_top.specs.Prove.{IsSearched}
 use Rattle.circ_top.specs.Regex.{IsEqualitySearched}
+use Rattle.circ_top.specs.Run.{Run}
 use Rattle.circ_top.specs.Trace.{IsTraced}
 use Rattle.circ_reports.specs.Same.{AtAutomaton}
 use Rattle.circ_files.specs.Ending.{Stored}
@@ -23,19 +24,19 @@ use Rattle.circ_files.specs.declared.status.Status.{Status}
 use Rattle.circ_files.specs.declared.status.Status.TheVariants as status
 
 -- An outcome of this status: its text was printed, and afterwards the files hold what it stores.
-pub record PrintsOutcome (words : List (List ℕ)) (before after : ShelfState) (start end : SinkState) (s : Status) : Type 0 where
+pub record PrintsOutcome (run : Run) (s : Status) : Type 0 where
   pub text : List ℕ
   pub stored : Option Stored
-  pub outcome : Outcome words before.holds s text stored
-  pub held : HoldsAfter stored before after
-  pub prints : Prints text start end
+  pub outcome : Outcome run.words run.before.holds s text stored
+  pub held : HoldsAfter stored run.before run.after
+  pub prints : Prints text run.start run.end
 
 -- The answer is an outcome; or it is a fault of the outside or want of memory.
-abbrev pub IsOutcomeOrFault : List (List ℕ) → (before after : ShelfState) → (start end : SinkState) → Status → Type 0
-IsOutcomeOrFault words before after start end (status.ReadFault n) = Unit {0}
-IsOutcomeOrFault words before after start end (status.WriteFault n) = Unit {0}
-IsOutcomeOrFault words before after start end status.Memory = Unit {0}
-IsOutcomeOrFault words before after start end s = PrintsOutcome words before after start end s
+abbrev pub IsOutcomeOrFault : Run → Status → Type 0
+IsOutcomeOrFault run (status.ReadFault n) = Unit {0}
+IsOutcomeOrFault run (status.WriteFault n) = Unit {0}
+IsOutcomeOrFault run status.Memory = Unit {0}
+IsOutcomeOrFault run s = PrintsOutcome run s
 
 -- A part of the text, or of that of a like answer, was printed.
 pub record PrintsPartOf (s : Status) (text : List ℕ) (start end : SinkState) : Type 0 where
@@ -46,15 +47,15 @@ pub record PrintsPartOf (s : Status) (text : List ℕ) (start end : SinkState) :
 
 -- What is answered where this is the outcome: the same or a like answer, with its file stored and its text printed; or that a count of faults rose or memory
 -- ran out.
-pub data AnswersOutcome (before after : ShelfState) (start end : SinkState) (s : Status) (text : List ℕ) (stored : Option Stored) : Status → Type 0 where
-  printed : (r : Status) (given : List ℕ) → IsLike s text r given → HoldsAfter stored before after → Prints given start end
-      → AnswersOutcome before after start end s text stored r
-  not_read : (n : ℕ) → Rose before.count after.count → Prints [] start end → AnswersOutcome before after start end s text stored (status.ReadFault n)
-  not_written : (n : ℕ) → Rose start.count end.count → HoldsAfter stored before after → PrintsPartOf s text start end
-      → AnswersOutcome before after start end s text stored (status.WriteFault n)
-  not_put : (n : ℕ) (x : Stored) → stored ≡ Some x → n ≡ after.count → Struck x.name true before after → PutFrame x.name before after → Prints [] start end
-      → AnswersOutcome before after start end s text stored (status.WriteFault n)
-  no_memory : PrintsPartOf s text start end → AnswersOutcome before after start end s text stored status.Memory
+pub data AnswersOutcome (run : Run) (s : Status) (text : List ℕ) (stored : Option Stored) : Status → Type 0 where
+  printed : (r : Status) (given : List ℕ) → IsLike s text r given → HoldsAfter stored run.before run.after → Prints given run.start run.end
+      → AnswersOutcome run s text stored r
+  not_read : (n : ℕ) → Rose run.before.count run.after.count → Prints [] run.start run.end → AnswersOutcome run s text stored (status.ReadFault n)
+  not_written : (n : ℕ) → Rose run.start.count run.end.count → HoldsAfter stored run.before run.after → PrintsPartOf s text run.start run.end
+      → AnswersOutcome run s text stored (status.WriteFault n)
+  not_put : (n : ℕ) (x : Stored) → stored ≡ Some x → n ≡ run.after.count → Struck x.name true run.before run.after
+      → PutFrame x.name run.before run.after → Prints [] run.start run.end → AnswersOutcome run s text stored (status.WriteFault n)
+  no_memory : PrintsPartOf s text run.start run.end → AnswersOutcome run s text stored status.Memory
 
 -- The first of two files has the fact, by its number and name; or it reads as a theory, and the second has the fact.
 abbrev pub AtEither : (takes : Theory → Type 0) → (theory second : List ℕ) → (ℕ → List ℕ → Type 0) → Type 0
@@ -94,23 +95,23 @@ pub record IsPastLimit (words : List (List ℕ)) (before : ShelfState) (file cou
   pub past : AtFile before command (λ f name. (f ≡ file) × IsTooLong name count before) ⊎ HasLongProof before command file count
 
 -- The words are those of a command, of which a file was not read. The shelf's count is given, and the sink got nothing.
-pub record IsReadFault (words : List (List ℕ)) (before after : ShelfState) (start end : SinkState) (count : ℕ) : Type 0 where
+pub record IsReadFault (run : Run) (count : ℕ) : Type 0 where
   pub command : Command
-  pub asks : Asks words command
-  pub unread : AtFile before command (λ f name. IsUnread name before after)
-  pub counted : count ≡ after.count
-  pub nothing : Prints [] start end
+  pub asks : Asks run.words command
+  pub unread : AtFile run.before command (λ f name. IsUnread name run.before run.after)
+  pub counted : count ≡ run.after.count
+  pub nothing : Prints [] run.start run.end
 
 -- A text was not written whole. The sink's count rose and is given, and the sink got a part of the text, which is the outcome's where the shelf tells.
-pub record IsUnwritten (words : List (List ℕ)) (before after : ShelfState) (start end : SinkState) (count : ℕ) : Type 0 where
+pub record IsUnwritten (run : Run) (count : ℕ) : Type 0 where
   pub outcome : Status
   pub text : List ℕ
   pub stored : Option Stored
-  pub due : before.tells ≡ true → Outcome words before.holds outcome text stored
-  pub held : HoldsAfter stored before after
-  pub rose : Rose start.count end.count
-  pub counted : count ≡ end.count
-  pub part : PrintsFront text start end
+  pub due : run.before.tells ≡ true → Outcome run.words run.before.holds outcome text stored
+  pub held : HoldsAfter stored run.before run.after
+  pub rose : Rose run.start.count run.end.count
+  pub counted : count ≡ run.end.count
+  pub part : PrintsFront text run.start run.end
 
 -- The outside failed to store the file of the command.
 pub record FailsToPut (words : List (List ℕ)) (before after : ShelfState) : Type 0 where
@@ -122,14 +123,14 @@ pub record FailsToPut (words : List (List ℕ)) (before after : ShelfState) : Ty
 
 -- The file of a command was not stored. The shelf's count rose and is given, and its last fault is a `put` of this file. Every other name holds what it held,
 -- and the sink got nothing.
-pub record IsNotPut (words : List (List ℕ)) (before after : ShelfState) (start end : SinkState) (count : ℕ) : Type 0 where
-  pub put : FailsToPut words before after
-  pub others : PutFrame put.name before after
-  pub counted : count ≡ after.count
-  pub nothing : Prints [] start end
+pub record IsNotPut (run : Run) (count : ℕ) : Type 0 where
+  pub put : FailsToPut run.words run.before run.after
+  pub others : PutFrame put.name run.before run.after
+  pub counted : count ≡ run.after.count
+  pub nothing : Prints [] run.start run.end
 
-abbrev pub IsWriteFault : (words : List (List ℕ)) → (before after : ShelfState) → (start end : SinkState) → (count : ℕ) → Type 0
-IsWriteFault words before after start end n = IsUnwritten words before after start end n ⊎ IsNotPut words before after start end n
+abbrev pub IsWriteFault : Run → (count : ℕ) → Type 0
+IsWriteFault run n = IsUnwritten run n ⊎ IsNotPut run n
 
 -- A fault of the shelf gives ReadFault, or WriteFault where it is a `put` of the file that the command stores, and no other answer.
 abbrev pub IsQuietRun : (words : List (List ℕ)) → (before after : ShelfState) → Status → Type 0

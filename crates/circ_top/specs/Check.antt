@@ -1,7 +1,6 @@
 -- What the status of a `check` or a `relation` says.
 use Rattle.std.specs.Prelude.{◌⊎◌, ℕ, List}
-use Rattle.circ_outer.specs.Shelf.{ShelfState, IsQuiet}
-use Rattle.circ_outer.specs.Sink.{SinkState}
+use Rattle.circ_outer.specs.Shelf.{IsQuiet}
 use Rattle.circ_theory.specs.Theory.{Theory}
 use Rattle.circ_proof.specs.Proof.{Proof}
 use Rattle.circ_files.specs.Files.{Held}
@@ -12,13 +11,14 @@ use Rattle.circ_reports.specs.Check.{IsAccepted, StepFails}
 use Rattle.circ_reports.specs.declared.report.Report.{Report}
 use Rattle.circ_top.specs.Command.{Check, Expand, Asks}
 use Rattle.circ_top.specs.Delivery.{Prints}
+use Rattle.circ_top.specs.Run.{Run}
 
 -- Status 0: the two files read, the proof is accepted, and every goal behaves. The report of this was printed, and the outside did not fail.
-pub record Accepts (report : Report) (theory proof : List ℕ) (before after : ShelfState) (start end : SinkState) : Type 0 where
+pub record Accepts (report : Report) (theory proof : List ℕ) (run : Run) : Type 0 where
   pub text : List ℕ
-  pub accepted : IsAccepted report theory proof text before
-  pub quiet : IsQuiet before after
-  pub prints : Prints text start end
+  pub accepted : IsAccepted report theory proof text run.before
+  pub quiet : IsQuiet run.before run.after
+  pub prints : Prints text run.start run.end
 
 -- The words are a `check`, a `relation` or an `expand` of these files.
 abbrev pub AsksOfProof : (words : List (List ℕ)) → (theory proof : List ℕ) → Type 0
@@ -27,13 +27,13 @@ AsksOfProof words theory proof =
     ⊎ ((goal : ℕ) × (derivatives : List ℕ) × Asks words (Expand theory proof goal derivatives))
 
 -- Status 1: the words are one of these whose files read, and step n is the first that is no instance of its rule.
-pub record Rejects (words : List (List ℕ)) (before after : ShelfState) (start end : SinkState) (n : ℕ) : Type 0 where
+pub record Rejects (run : Run) (n : ℕ) : Type 0 where
   pub theory : List ℕ
   pub proof : List ℕ
-  pub asks : AsksOfProof words theory proof
-  pub refused : StepFails theory proof n before
-  pub quiet : IsQuiet before after
-  pub prints : Prints (refused_text n) start end
+  pub asks : AsksOfProof run.words theory proof
+  pub refused : StepFails theory proof n run.before
+  pub quiet : IsQuiet run.before run.after
+  pub prints : Prints (refused_text n) run.start run.end
 
 -- The words are a `check` or a `relation` of two files that read as the theory and the proof.
 pub record FilesRead (words : List (List ℕ)) (held : Held) (report : Report) (th : Theory) (p : Proof) : Type 0 where

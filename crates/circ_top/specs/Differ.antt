@@ -2,7 +2,6 @@
 use Rattle.std.specs.Prelude.{◌≡◌, ◌≤◌, ℕ, ◌-◌, List, length, Option, Some}
 use Rattle.std.specs.List.{slice_get}
 use Rattle.circ_outer.specs.Shelf.{ShelfState, IsQuiet}
-use Rattle.circ_outer.specs.Sink.{SinkState}
 use Rattle.circ_term.specs.Tree.{Tree}
 use Rattle.circ_theory.specs.Theory.{Theory}
 use Rattle.circ_theory.specs.Goal.{Goal}
@@ -20,6 +19,7 @@ use Rattle.circ_found.specs.Searchable.{ArePlainlySearchable}
 use Rattle.circ_files.specs.Ending.{Stored, Ending}
 use Rattle.circ_top.specs.Command.{Differ}
 use Rattle.circ_top.specs.Delivery.{Prints}
+use Rattle.circ_top.specs.Run.{Run}
 use Rattle.circ_top.specs.Scripted.{GoalsEnd, to_differ, ScriptOutcome, IsDoneOn}
 use Rattle.circ_turn.specs.declared.search.Limits.{Limits}
 
@@ -39,11 +39,11 @@ pub record IsDifferenceSought (limits : Limits) (theory script : List ℕ) (e : 
 
 -- Status 11 of `differ`: the two files read, and the experiment that is printed, of n entries, fits goal number `goal` of the script, counted from 1, and
 -- leads its sides to two different constants of one case list, by derivations from the theory. The outside did not fail.
-pub record TellsApart (theory script : List ℕ) (n : ℕ) (before after : ShelfState) (start end : SinkState) : Type 0 where
+pub record TellsApart (theory script : List ℕ) (n : ℕ) (run : Run) : Type 0 where
   pub th : Theory
   pub sc : Script
-  pub takes_theory : TakesTheory theory th before
-  pub takes_script : TakesScript script th job.Differ sc before
+  pub takes_theory : TakesTheory theory th run.before
+  pub takes_script : TakesScript script th job.Differ sc run.before
   pub goal : ℕ
   pub counted : 1 ≤ goal
   pub told_apart : Goal
@@ -53,5 +53,5 @@ pub record TellsApart (theory script : List ℕ) (n : ℕ) (before after : Shelf
   pub right : Tree
   pub differs : DiffersBy th told_apart entries left right
   pub count : n ≡ length entries
-  pub quiet : IsQuiet before after
-  pub prints : Prints (differs_text th goal entries left right) start end
+  pub quiet : IsQuiet run.before run.after
+  pub prints : Prints (differs_text th goal entries left right) run.start run.end

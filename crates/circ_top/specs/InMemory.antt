@@ -1,11 +1,10 @@
 -- What a run over files and a text in memory answers.
 use Rattle.std.specs.Prelude.{◌≡◌, ◌++◌, ℕ, List, Option, IsSome}
-use Rattle.circ_outer.specs.Shelf.{ShelfState}
-use Rattle.circ_outer.specs.Sink.{SinkState}
 use Rattle.circ_top.specs.Command.{Command, Check, Prove, Show, Contexts, Reduce, Same, Differ, Trace, Regex, Upgrade, Expand, Library, Generate, Asks}
 use Rattle.circ_files.specs.Files.{Held}
 use Rattle.circ_files.specs.Like.{IsLike}
 use Rattle.circ_top.specs.Outcome.{Outcome}
+use Rattle.circ_top.specs.Run.{Run}
 use Rattle.circ_files.specs.Ending.{Stored}
 use Rattle.circ_top.specs.Storing.{HoldsAfter}
 use Rattle.circ_files.specs.declared.status.Status.{Status}
@@ -31,21 +30,21 @@ abbrev pub HoldsFiles : List (List ℕ) → Held → Type 0
 HoldsFiles words held = (c : Command) → Asks words c → HoldsFilesOf held c
 
 -- The answer is this outcome or a like answer. Its text was appended, and afterwards the files hold what the outcome stores.
-pub record AppendsAnswer (before after : ShelfState) (start end : SinkState) (s : Status) (text : List ℕ) (stored : Option Stored) (r : Status) : Type 0 where
+pub record AppendsAnswer (run : Run) (s : Status) (text : List ℕ) (stored : Option Stored) (r : Status) : Type 0 where
   pub given : List ℕ
   pub like : IsLike s text r given
-  pub held : HoldsAfter stored before after
-  pub appended : end.written ≡ start.written ++ given
+  pub held : HoldsAfter stored run.before run.after
+  pub appended : run.end.written ≡ run.start.written ++ given
 
 -- There is an outcome of this status, whose text was appended, and afterwards the files hold what it stores.
-pub record AppendsOutcome (words : List (List ℕ)) (before after : ShelfState) (start end : SinkState) (s : Status) : Type 0 where
+pub record AppendsOutcome (run : Run) (s : Status) : Type 0 where
   pub text : List ℕ
   pub stored : Option Stored
-  pub outcome : Outcome words before.holds s text stored
-  pub held : HoldsAfter stored before after
-  pub appended : end.written ≡ start.written ++ text
+  pub outcome : Outcome run.words run.before.holds s text stored
+  pub held : HoldsAfter stored run.before run.after
+  pub appended : run.end.written ≡ run.start.written ++ text
 
 -- The answer is an outcome; or memory ran out.
-abbrev pub Appends : List (List ℕ) → (before after : ShelfState) → (start end : SinkState) → Status → Type 0
-Appends words before after start end status.Memory = Unit {0}
-Appends words before after start end s = AppendsOutcome words before after start end s
+abbrev pub Appends : Run → Status → Type 0
+Appends run status.Memory = Unit {0}
+Appends run s = AppendsOutcome run s

@@ -1,4 +1,5 @@
 pub mod Words
+pub mod Run
 pub mod Command
 pub mod PlainWords
 pub mod Refusals
@@ -16,6 +17,7 @@ pub mod Expand
 pub mod Outcome
 pub mod Answer
 pub mod Causes
+pub mod Promises
 pub mod InMemory
 pub mod Complete
 pub mod SecondProve

@@ -1,7 +1,6 @@
 -- What `prove` does: its outcome, and what it stores.
 use Rattle.std.specs.Prelude.{◌≡◌, ◌≢◌, ◌≤◌, ℕ, List, length, map, Option, Some, true}
 use Rattle.circ_outer.specs.Shelf.{ShelfState, IsQuiet}
-use Rattle.circ_outer.specs.Sink.{SinkState}
 use Rattle.circ_theory.specs.Theory.{Theory}
 use Rattle.circ_proof.specs.Accepted.{Accepted}
 use Rattle.circ_proof.specs.Proof.{Proof, ProofFor}
@@ -18,6 +17,7 @@ use Rattle.circ_top.specs.Command.{Prove}
 use Rattle.circ_search.specs.Plain.{conduct_with}
 use Rattle.circ_conditional_search.specs.ConditionalSearch.{CanAllBeSearched}
 use Rattle.circ_top.specs.Delivery.{Prints}
+use Rattle.circ_top.specs.Run.{Run}
 use Rattle.circ_top.specs.Scripted.{GoalsEnd, to_prove, ScriptOutcome, IsDoneOn}
 use Rattle.circ_turn.specs.declared.search.Limits.{Limits}
 
@@ -36,17 +36,17 @@ pub record IsSearched (limits : Limits) (theory script name : List ℕ) (e : End
 
 -- Status 0 of `prove`: the two files read, and the named file holds the text of an accepted proof of exactly the script's goals, where the shelf tells.
 -- Every other name holds what it held. The report of this was printed, and the outside did not fail.
-pub record StoresProof (theory script name : List ℕ) (before after : ShelfState) (start end : SinkState) : Type 0 where
+pub record StoresProof (theory script name : List ℕ) (run : Run) : Type 0 where
   pub th : Theory
   pub sc : Script
   pub p : Proof
-  pub takes_theory : TakesTheory theory th before
-  pub takes_script : TakesScript script th job.Prove sc before
+  pub takes_theory : TakesTheory theory th run.before
+  pub takes_script : TakesScript script th job.Prove sc run.before
   pub proof_for : ProofFor th p
   pub accepted : Accepted th p
   pub goals : map (λ b. b.goals) p.blocks ≡ sc.blocks
   pub short : length (proof_text p) ≤ 67108864
-  pub holds : before.tells ≡ true → after.holds name ≡ Some (proof_text p)
-  pub others : (n : List ℕ) → n ≢ name → after.holds n ≡ before.holds n
-  pub quiet : IsQuiet before after
-  pub prints : Prints (proved_text th.signature p) start end
+  pub holds : run.before.tells ≡ true → run.after.holds name ≡ Some (proof_text p)
+  pub others : (n : List ℕ) → n ≢ name → run.after.holds n ≡ run.before.holds n
+  pub quiet : IsQuiet run.before run.after
+  pub prints : Prints (proved_text th.signature p) run.start run.end

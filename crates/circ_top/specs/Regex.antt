@@ -1,7 +1,6 @@
 -- What `regex` does: its outcome, and what it stores.
 use Rattle.std.specs.Prelude.{◌≡◌, ◌≢◌, ◌≤◌, ◌<◌, ◌↔◌, ℕ, List, [], ◌∷◌, length, map, Option, Some, None, true}
-use Rattle.circ_outer.specs.Shelf.{ShelfState, IsQuiet}
-use Rattle.circ_outer.specs.Sink.{SinkState}
+use Rattle.circ_outer.specs.Shelf.{IsQuiet}
 use Rattle.circ_theory.specs.Theory.{goal}
 use Rattle.circ_theory.specs.WellFormed.{IsWellFormed}
 use Rattle.circ_theory.specs.Goal.{Goal}
@@ -23,6 +22,7 @@ use Rattle.circ_search.specs.Plain.{conduct_with}
 use Rattle.circ_top.specs.Command.{Regex}
 use Rattle.circ_top.specs.Delivery.{Prints}
 use Rattle.circ_top.specs.Refusals.{refusal_text}
+use Rattle.circ_top.specs.Run.{Run}
 use Rattle.circ_turn.specs.declared.search.Limits.{Limits}
 
 -- why bytes are no expression, always at place 0: there are too many, or they spell none
@@ -71,7 +71,7 @@ pub data RefusesRegex (left right : List ℕ) : Status → Type 0 where
 
 -- Status 0 of `regex`: the two words are expressions that match the same words, and the named file holds the text of an accepted proof in LANG that their
 -- terms are equal, where the shelf tells. Every other name holds what it held. The report of this was printed, and the outside did not fail.
-pub record StoresEquality (left right name : List ℕ) (before after : ShelfState) (start end : SinkState) : Type 0 where
+pub record StoresEquality (left right name : List ℕ) (run : Run) : Type 0 where
   pub e : Expression
   pub f : Expression
   pub p : Proof
@@ -82,7 +82,7 @@ pub record StoresEquality (left right name : List ℕ) (before after : ShelfStat
   pub accepted : Accepted LANG p
   pub goals : map (λ b. b.goals) p.blocks ≡ equality_goals e f
   pub short : length (proof_text p) ≤ 67108864
-  pub holds : before.tells ≡ true → after.holds name ≡ Some (proof_text p)
-  pub others : (n : List ℕ) → n ≢ name → after.holds n ≡ before.holds n
-  pub quiet : IsQuiet before after
-  pub prints : Prints (proved_text LANG.signature p) start end
+  pub holds : run.before.tells ≡ true → run.after.holds name ≡ Some (proof_text p)
+  pub others : (n : List ℕ) → n ≢ name → run.after.holds n ≡ run.before.holds n
+  pub quiet : IsQuiet run.before run.after
+  pub prints : Prints (proved_text LANG.signature p) run.start run.end

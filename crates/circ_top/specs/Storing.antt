@@ -1,11 +1,11 @@
 -- What becomes of the file that a run stores.
 use Rattle.std.specs.Prelude.{◌≡◌, ◌≢◌, ◌⊎◌, ℕ, List, [], Option, Some, None, true}
 use Rattle.circ_outer.specs.Shelf.{ShelfState, Struck, IsQuiet, PutFrame}
-use Rattle.circ_outer.specs.Sink.{SinkState}
 use Rattle.circ_files.specs.declared.status.Status.{Status}
 use Rattle.circ_files.specs.declared.status.Status.TheVariants as status
 use Rattle.circ_files.specs.Ending.{Stored}
 use Rattle.circ_top.specs.Delivery.{Prints, Delivers}
+use Rattle.circ_top.specs.Run.{Run}
 
 -- Afterwards the stored file holds its bytes, where the shelf tells, and every other name what it held.
 abbrev pub HoldsAfter : (stored : Option Stored) → (before after : ShelfState) → Type 0
@@ -27,9 +27,9 @@ pub record FailsToStore (stored : Option Stored) (before after : ShelfState) (s 
   pub others : PutFrame file.name before after
 
 -- What becomes of an answer, with its text and what is to be stored: this is stored, and the text is written; or it is not stored, and nothing is printed.
-pub data Ends (before after : ShelfState) (start end : SinkState) (answer : Status) (text : List ℕ) (stored : Option Stored) : Status → Type 0 where
-  stored_first : (s : Status) → HoldsAfter stored before after → Delivers text start end answer s → Ends before after start end answer text stored s
-  not_stored : (s : Status) → FailsToStore stored before after s → Prints [] start end → Ends before after start end answer text stored s
+pub data Ends (run : Run) (answer : Status) (text : List ℕ) (stored : Option Stored) : Status → Type 0 where
+  stored_first : (s : Status) → HoldsAfter stored run.before run.after → Delivers text run.start run.end answer s → Ends run answer text stored s
+  not_stored : (s : Status) → FailsToStore stored run.before run.after s → Prints [] run.start run.end → Ends run answer text stored s
 
 -- A fault of the shelf gives WriteFault, where it is a `put` of what was to be stored, and no other answer. Nothing is said where a file was not read.
 abbrev pub IsQuietEnd : (stored : Option Stored) → (before after : ShelfState) → Status → Type 0

@@ -1,34 +1,18 @@
 //! The call `circ`: the program over any shelf and any sink.
-ghost use Rattle.std.specs.Prelude.{◌≡◌, ◌≤◌, ℕ, List, [], true, Option, None, map, string_bytes};
+ghost use Rattle.std.specs.Prelude.{◌≡◌, ◌≤◌, ℕ, List, [], None, map, string_bytes};
 ghost use Rattle.std.specs.Prelude.{IfOk, OnOk, IfErr};
 ghost use Rattle.circ_outer.specs.Shelf.{ShelfFrame, IsQuiet};
 ghost use Rattle.circ_outer.specs.Sink.{SinkFrame};
-ghost use Rattle.circ_theory.specs.Theory.{Theory};
-ghost use Rattle.circ_theory.specs.Goal.{Goal};
-ghost use Rattle.circ_proof.specs.Proof.{Proof};
-ghost use Rattle.circ_proof.specs.Accepted.{Derives, FirstFail};
-ghost use Rattle.circ_reports.specs.declared.report.Report.{Report};
-ghost use Rattle.circ_turn.specs.declared.search.Limits.{Limits};
-ghost use Rattle.circ_top.specs.Command.{Check, Prove, Differ, Regex, Upgrade, Expand, Asks};
-ghost use Rattle.circ_top.specs.Command.{IsNotStored, IsReport, IsBounded, plain_request};
-ghost use Rattle.circ_files.specs.Texts.{refused_text};
-ghost use Rattle.circ_files.specs.Ending.{Stored as PlainStored, plain_stored, plain_ending};
+ghost use Rattle.circ_top.specs.Command.{Asks, IsReport, IsBounded, plain_request};
+ghost use Rattle.circ_files.specs.Ending.{plain_stored, plain_ending};
 ghost use Rattle.circ_generate.specs.Generating.{Generates};
+ghost use Rattle.circ_top.specs.Run.{run_of};
 ghost use Rattle.circ_top.specs.Refusals.{refusal_text};
 ghost use Rattle.circ_top.specs.Delivery.{Delivers};
-ghost use Rattle.circ_reports.specs.Check.{report_text};
-ghost use Rattle.circ_top.specs.Check.{Accepts, Rejects, FilesRead};
-ghost use Rattle.circ_top.specs.Outcome.{Outcome};
-ghost use Rattle.circ_top.specs.Prove.{StoresProof};
-ghost use Rattle.circ_top.specs.Differ.{TellsApart};
-ghost use Rattle.circ_top.specs.Regex.{StoresEquality};
-ghost use Rattle.circ_top.specs.Upgrade.{StoresUpgraded};
-ghost use Rattle.circ_top.specs.Expand.{WritesDerivation};
 ghost use Rattle.circ_top.specs.Storing.{HoldsAfter, FailsToStore, Ends, IsQuietEnd};
 ghost use Rattle.circ_top.specs.Answer.{Succeeds, Comes, RefusesCommand, AnswersDue};
-ghost use Rattle.circ_top.specs.Answer.{Succeeded};
-ghost use Rattle.circ_top.specs.Causes.{IsOutcomeOrFault, AnswersOutcome, PrintsPartOf};
-ghost use Rattle.circ_top.specs.Causes.{IsPastLimit, IsReadFault, IsWriteFault, IsQuietRun};
+ghost use Rattle.circ_top.specs.Causes.{IsQuietRun};
+ghost use Rattle.circ_top.specs.Promises.{Promises};
 ghost use Rattle.circ_files.specs.Quiet.{IsQuietCall};
 
 use crate::differ::differ;
@@ -62,118 +46,27 @@ use std::alloc::Global;
 /// between them.
 /// The files are taken from the shelf, to which `prove`, `regex` and `upgrade` store a proof, and
 /// the text of the answer is written to the sink, whole.
+///
+/// Its one clause is the headline. Status 0 of `check` and `relation`: the proof is accepted, so
+/// that every goal behaves. Status 1: which step is the first that is no instance of its rule. So
+/// it says what status 0 of each command means, and the cause and the text of each answer. Where
+/// the shelf tells what its files hold, the answer is the outcome of the words and the files,
+/// unless a count of faults rose or memory ran out. `Promises` in `specs/Promises.antt` has a field
+/// for each of these, over a `Run` (`specs/Run.antt`): the words, and the shelf and the sink before
+/// and after.
 pub fn circ<S: Shelf, K: Sink>(
     alloc: Global,
     words: &Vec<String>,
     shelf: &mut S,
     out: &mut K,
 ) -> Status
-    // Status 0 of `check` and `relation`: the proof is accepted, so that every goal behaves, and
-    // every goal that a block derived. Status 1: which step is the first that is no instance of its
-    // rule. Where the shelf tells what the files hold, they read as this theory and this proof.
-    ensures accepted { (report : Report) (theory proof : List ℕ) →
-        Asks (map string_bytes words.now.items) (Check report theory proof) →
-        result ≡ Status.Ok → Accepts report theory proof
-        (S.state shelf.old) (S.state shelf.new) (K.state out.old) (K.state out.new) }
-    ensures refused { (n : ℕ) → result ≡ Status.Refused n →
-        Rejects (map string_bytes words.now.items)
-        (S.state shelf.old) (S.state shelf.new) (K.state out.old) (K.state out.new) n }
-
-    // Status 0 of `prove`: the third word's file holds the text of an accepted proof of exactly the
-    // script's goals.
-    ensures proved { (limits : Limits) (theory script proof : List ℕ) →
-        Asks (map string_bytes words.now.items) (Prove limits theory script proof) →
-        result ≡ Status.Ok → StoresProof theory script proof
-        (S.state shelf.old) (S.state shelf.new) (K.state out.old) (K.state out.new) }
-
-    // Status 0 of `regex`: the first two words are expressions that match the same words, and the
-    // third word's file holds the text of an accepted proof in LANG that their terms are equal.
-    ensures expressions { (limits : Limits) (left right proof : List ℕ) →
-        Asks (map string_bytes words.now.items) (Regex limits left right proof) →
-        result ≡ Status.Ok → StoresEquality left right proof
-        (S.state shelf.old) (S.state shelf.new) (K.state out.old) (K.state out.new) }
-
-    // Status 11 of `differ`: the experiment that is printed leads the sides of a goal of the script
-    // to two different constants of one case list.
-    ensures told_apart { (limits : Limits) (theory script : List ℕ) (n : ℕ) →
-        Asks (map string_bytes words.now.items) (Differ limits theory script) →
-        result ≡ Status.Differ n → TellsApart theory script n
-        (S.state shelf.old) (S.state shelf.new) (K.state out.old) (K.state out.new) }
-
-    // Status 0 of `upgrade`: the third word's file holds the text of the second file's proof in
-    // version 2, which is checked as that is.
-    ensures upgraded { (theory proof new : List ℕ) →
-        Asks (map string_bytes words.now.items) (Upgrade theory proof new) →
-        result ≡ Status.Ok → StoresUpgraded theory proof new
-        (S.state shelf.old) (S.state shelf.new) (K.state out.old) (K.state out.new) }
-
-    // Status 0 of `expand`: what is printed leads from the experiment on the left side of a goal of
-    // the proof to that on its right side, with no hypothesis.
-    ensures expansion { (theory proof : List ℕ) (goal : ℕ) (derivatives : List ℕ) →
-        Asks (map string_bytes words.now.items) (Expand theory proof goal derivatives) →
-        result ≡ Status.Ok → WritesDerivation theory proof goal derivatives
-        (S.state shelf.old) (S.state shelf.new) (K.state out.old) (K.state out.new) }
-
-    // Status 0 of any command: its text is printed, which `Succeeds` states for each.
-    ensures succeeded { result ≡ Status.Ok →
-        Succeeded (map string_bytes words.now.items)
-        (S.state shelf.old) (S.state shelf.new) (K.state out.old) (K.state out.new) }
-
-    // Each answer has its cause and its text.
-    ensures answers { AnswersDue (map string_bytes words.now.items)
-        (S.state shelf.old) (S.state shelf.new) (K.state out.old) (K.state out.new) result }
-
-    // Where the shelf tells, no other answer comes than the outcome of the words and the files,
-    // with exactly its text, and it comes unless a count of faults rose or memory ran out.
-    ensures outcome { (S.state shelf.old).tells ≡ true →
-        IsOutcomeOrFault (map string_bytes words.now.items)
-        (S.state shelf.old) (S.state shelf.new) (K.state out.old) (K.state out.new) result }
-    ensures complete { (S.state shelf.old).tells ≡ true →
-        (s : Status) (text : List ℕ) (stored : Option PlainStored) →
-        Outcome (map string_bytes words.now.items) (S.state shelf.old).holds s text stored →
-        AnswersOutcome (S.state shelf.old) (S.state shelf.new) (K.state out.old) (K.state out.new)
-        s text stored result }
-
-    // Where the files read, the first step that fails is answered, and where none does, the
-    // report.
-    ensures first_failure { (S.state shelf.old).tells ≡ true →
-        (report : Report) (th : Theory) (p : Proof) (n : ℕ) →
-        FilesRead (map string_bytes words.now.items) (S.state shelf.old).holds report th p →
-        FirstFail th p n →
-        AnswersOutcome (S.state shelf.old) (S.state shelf.new) (K.state out.old) (K.state out.new)
-        (Status.Refused n) (refused_text n) None result }
-    ensures accepted_text { (S.state shelf.old).tells ≡ true →
-        (report : Report) (th : Theory) (p : Proof) (derived : List (List Goal)) →
-        FilesRead (map string_bytes words.now.items) (S.state shelf.old).holds report th p →
-        Derives th p derived →
-        AnswersOutcome (S.state shelf.old) (S.state shelf.new) (K.state out.old) (K.state out.new)
-        Status.Ok (report_text report th.signature p derived) None result }
-
-    // A file that is too long, faults of the outside, want of memory: when they come, and what
-    // was printed then.
-    ensures file_limit { (file n : ℕ) → result ≡ Status.TooLong file n →
-        IsPastLimit (map string_bytes words.now.items) (S.state shelf.old) file n }
-    ensures read_fault { (n : ℕ) → result ≡ Status.ReadFault n →
-        IsReadFault (map string_bytes words.now.items)
-        (S.state shelf.old) (S.state shelf.new) (K.state out.old) (K.state out.new) n }
-    ensures write_fault { (n : ℕ) → result ≡ Status.WriteFault n →
-        IsWriteFault (map string_bytes words.now.items)
-        (S.state shelf.old) (S.state shelf.new) (K.state out.old) (K.state out.new) n }
-    ensures memory { result ≡ Status.Memory → (S.state shelf.old).tells ≡ true →
-        (s : Status) (text : List ℕ) (stored : Option PlainStored) →
-        Outcome (map string_bytes words.now.items) (S.state shelf.old).holds s text stored →
-        PrintsPartOf s text (K.state out.old) (K.state out.new) }
-
-    // A fault of the shelf gives ReadFault, or WriteFault if it is that of storing the command's
-    // file, and no other answer. No name changes what it holds but the one under which the command
-    // stores.
-    ensures quiet { IsQuietRun (map string_bytes words.now.items)
-        (S.state shelf.old) (S.state shelf.new) result }
-    ensures holds { (n : List ℕ) → IsNotStored (map string_bytes words.now.items) n →
-        (S.state shelf.new).holds n ≡ (S.state shelf.old).holds n }
-    ensures shelf_tells { (S.state shelf.new).tells ≡ (S.state shelf.old).tells }
-    ensures shelf_count { (S.state shelf.old).count ≤ (S.state shelf.new).count }
-    ensures sink_frame { SinkFrame (K.state out.old) (K.state out.new) }
+    ensures promises { Promises (record {
+      words = map string_bytes words.now.items;
+      before = S.state shelf.old;
+      after = S.state shelf.new;
+      start = K.state out.old;
+      end = K.state out.new;
+    }) result }
 {
     read_in_one_way();
     scripts_read_in_one_way();
@@ -191,8 +84,8 @@ pub fn circ<S: Shelf, K: Sink>(
 
 /// Runs the program with its words, and says what came of it.
 fn answer<S: Shelf, K: Sink>(alloc: Global, words: &[String], shelf: &mut S, out: &mut K) -> Status
-    ensures answers { AnswersDue (map string_bytes words.now)
-        (S.state shelf.old) (S.state shelf.new) (K.state out.old) (K.state out.new) result }
+    ensures answers { AnswersDue (run_of (map string_bytes words.now)
+        (S.state shelf.old) (S.state shelf.new) (K.state out.old) (K.state out.new)) result }
     ensures quiet { IsQuietRun (map string_bytes words.now)
         (S.state shelf.old) (S.state shelf.new) result }
     ensures shelf_tells { (S.state shelf.new).tells ≡ (S.state shelf.old).tells }
@@ -215,8 +108,8 @@ fn answer_to<S: Shelf, K: Sink>(
 ) -> Status
     requires { IsBounded (plain_request request.now) }
     ensures answers { (words : List (List ℕ)) → Asks words (plain_request request.now) →
-        AnswersDue words
-        (S.state shelf.old) (S.state shelf.new) (K.state out.old) (K.state out.new) result }
+        AnswersDue (run_of words
+        (S.state shelf.old) (S.state shelf.new) (K.state out.old) (K.state out.new)) result }
     ensures quiet { (words : List (List ℕ)) → Asks words (plain_request request.now) →
         IsQuietRun words (S.state shelf.old) (S.state shelf.new) result }
     ensures shelf_tells { (S.state shelf.new).tells ≡ (S.state shelf.old).tells }
@@ -324,7 +217,8 @@ fn report<S: Shelf>(alloc: Global, request: &Request<'_>, shelf: &mut S) -> Resu
 
 /// Stores the file of an ending, and writes its text.
 fn conclude<S: Shelf, K: Sink>(shelf: &mut S, out: &mut K, ending: Ending<'_>) -> Status
-    ensures ends { Ends (S.state shelf.old) (S.state shelf.new) (K.state out.old) (K.state out.new)
+    ensures ends { (words : List (List ℕ)) → Ends (run_of words
+        (S.state shelf.old) (S.state shelf.new) (K.state out.old) (K.state out.new))
         ending.entry.status ending.entry.text.items (plain_stored ending.entry.stored) result }
     ensures quiet { IsQuietEnd (plain_stored ending.entry.stored)
         (S.state shelf.old) (S.state shelf.new) result }

@@ -1,7 +1,6 @@
-//! Laws on the definitions behind the clauses of `circ`.
+//! Laws on the definitions behind the clause of `circ`.
 ghost use Rattle.std.specs.Prelude.{◌≡◌, ◌≤◌, ◌↔◌, ℕ, List, [], ◌∷◌, length, Option, Some, codes};
 ghost use Rattle.circ_outer.specs.Shelf.{ShelfState};
-ghost use Rattle.circ_outer.specs.Sink.{SinkState};
 ghost use Rattle.circ_term.specs.declared.TheConstants.{MOST_NODES, MOST_DEPTH};
 ghost use Rattle.circ_term.specs.declared.TheConstants.{MOST_ARGS as MOST_TERM_ARGS};
 ghost use Rattle.circ_theory.specs.declared.TheConstants.{MOST_SORTS, MOST_VARS, MOST_OPS};
@@ -23,6 +22,7 @@ ghost use Rattle.circ_reports.specs.declared.report.Report.{Report};
 ghost use Rattle.circ_top.specs.Command.{Command, Check, IsCommand, Asks, IsNoCommand};
 ghost use Rattle.circ_top.specs.Command.{IsNotStored};
 ghost use Rattle.circ_top.specs.Causes.{IsNotPut};
+ghost use Rattle.circ_top.specs.Run.{Run};
 ghost use Rattle.circ_top.specs.SecondProve.{AsksAgain};
 ghost use Rattle.circ_reports.specs.Upgrade.{upgraded};
 ghost use Rattle.circ_top.specs.Upgraded.{DifferInVersion, AsksOfUpgraded};
@@ -112,14 +112,14 @@ pub fn upgraded_proofs_check_alike()
 
 /// What a second `prove` on the same shelf comes to, from a theory and a script of the same bytes
 /// under names other than that of the proof: what the first came to. So it is behind a first whose
-/// proof the outside failed to store (`IsNotPut` of the clause `write_fault` of `circ`), and behind
-/// any other, as the clause `holds` says what the files hold then.
+/// proof the outside failed to store (`IsNotPut` of the promise `write_fault` of `circ`), and
+/// behind any other, as the promise `holds` says what the files hold then.
 pub fn second_proves_come_to_the_same()
-    ensures not_put { (words second : List (List ℕ)) (before after : ShelfState) →
-        AsksAgain words second before.holds → (start end : SinkState) (n : ℕ) →
-        IsNotPut words before after start end n →
+    ensures not_put { (second : List (List ℕ)) (run : Run) →
+        AsksAgain run.words second run.before.holds → (n : ℕ) → IsNotPut run n →
         (s : Status) (text : List ℕ) (stored : Option Stored) →
-        Outcome words before.holds s text stored ↔ Outcome second after.holds s text stored }
+        Outcome run.words run.before.holds s text stored
+        ↔ Outcome second run.after.holds s text stored }
     ensures any { (words second : List (List ℕ)) (before after : ShelfState) →
         AsksAgain words second before.holds →
         ((n : List ℕ) → IsNotStored words n → after.holds n ≡ before.holds n) →

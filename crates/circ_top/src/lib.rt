@@ -1,4 +1,4 @@
-//! The program over any shelf and any sink: the call [`circ`], whose clauses are the headline.
+//! The program over any shelf and any sink: the call [`circ`], whose clause is the headline.
 #![tactic(auto)]
 
 mod command;

@@ -16,6 +16,9 @@ returns-in-Ok-None-clause-answers g c = record {
   ends = stored_first c.deliver.result (λ n. refl) (rw c.usage.ensures at c.deliver.ensures.delivers);
 }
 
+pub returns-in-Ok-Some-clause-answers : goal.returns-in-Ok-Some-clause-answers
+returns-in-Ok-Some-clause-answers g c = c.answer_to.ensures.answers _ (rw c.in-Ok-Some.field-0-is at c.in-Ok-Some.ensures)
+
 pub returns-in-Err-clause-answers : goal.returns-in-Err-clause-answers
 returns-in-Err-clause-answers g c = record {
   answer = status.Memory;

@@ -16,8 +16,8 @@ returns-in-Ok-clause-answers g c = λ words i.
       text = e.text.items;
       stored = plain_stored e.stored;
       due = work_done k e.status e.text.items (plain_stored e.stored) i c.in-Ok.ensures.comes;
-      ends = ends_since _ _ _ c.in-Ok.ensures.frame c.in-Ok.ensures.quiet _ _ e.status e.text.items (plain_stored e.stored) c.conclude.result
-          c.conclude.ensures.ends;
+      ends = ends_since _ _ _ c.in-Ok.ensures.frame c.in-Ok.ensures.quiet words _ _ e.status e.text.items (plain_stored e.stored) c.conclude.result
+          (c.conclude.ensures.ends words);
     }
 
 pub returns-in-Ok-clause-quiet : goal.returns-in-Ok-clause-quiet

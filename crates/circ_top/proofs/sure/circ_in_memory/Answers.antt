@@ -2,17 +2,17 @@ use Rattle.std.proofs.Common.{refl}
 use Rattle.circ_top.proofs.NoFaults.{never_rose, always_read, always_written, sure_outcome, sure_answer}
 use Rattle.circ_top.proofs.sure.circ_in_memory.Goals as goal
 
+pub returns-clause-promises : goal.returns-clause-promises
+returns-clause-promises c = c.circ.ensures.promises
+
 pub returns-clause-no_read_fault : goal.returns-clause-no_read_fault
-returns-clause-no_read_fault c = λ h n e. always_read _ _ _ _ _ n never_rose h (c.circ.ensures.read_fault n e)
+returns-clause-no_read_fault c = λ h n e. always_read _ c.circ.result c.circ.ensures.promises never_rose h n e
 
 pub returns-clause-no_write_fault : goal.returns-clause-no_write_fault
-returns-clause-no_write_fault c = λ n e. always_written _ _ _ _ _ n never_rose never_rose (c.circ.ensures.write_fault n e)
+returns-clause-no_write_fault c = λ n e. always_written _ c.circ.result c.circ.ensures.promises never_rose never_rose n e
 
 pub returns-clause-outcome : goal.returns-clause-outcome
-returns-clause-outcome c = λ h.
-    sure_outcome _ _ _ _ _ c.circ.result refl (λ n e. always_read _ _ _ _ _ n never_rose h (c.circ.ensures.read_fault n e))
-    (λ n e. always_written _ _ _ _ _ n never_rose never_rose (c.circ.ensures.write_fault n e)) (c.circ.ensures.outcome refl)
+returns-clause-outcome c = λ h. sure_outcome _ c.circ.result c.circ.ensures.promises never_rose never_rose refl refl h
 
 pub returns-clause-complete : goal.returns-clause-complete
-returns-clause-complete c =
-    λ s text stored h. sure_answer _ _ _ _ s c.circ.result text stored refl never_rose never_rose (c.circ.ensures.complete refl s text stored h)
+returns-clause-complete c = λ s text stored h. sure_answer _ c.circ.result c.circ.ensures.promises never_rose never_rose refl refl s text stored h
