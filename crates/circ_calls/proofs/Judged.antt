@@ -17,14 +17,14 @@ use Rattle.circ_replay.specs.Following.{Follows, FollowsAll}
 use Rattle.circ_shared.specs.Interned.{OfTerm}
 use Rattle.circ_shared.specs.Patterns.{goal_at, pairs_at, AreThere, IsPattern}
 use Rattle.circ_shared.proofs.Sharing.{goals_later, patterns_later, are_there_later, pairs_later}
-use Rattle.circ_entering.specs.Numbered.{IsNumbered}
+use Rattle.circ_entering.specs.Numbered.{AreEnteredRules}
 use Rattle.circ_entering.proofs.Judged.{numbered_later}
 use Rattle.circ_calls.specs.declared.lent.Lent.{Lent}
 use Rattle.circ_calls.specs.Lent.{IsLent, IsThereIfSome}
 
 module _ (th : Theory) (table : List Tree) (H : List Goal) (A : List Pair) where
   -- the rules, the hypotheses and the assumptions got numbers one after another
-  pub all_lent : (a b c : List Tree) → Grows a b → Grows b c → (x : Lent) → IsNumbered th table a x.numbered → AllByRecursion (IsPattern b) x.hyps.items
+  pub all_lent : (a b c : List Tree) → Grows a b → Grows b c → (x : Lent) → AreEnteredRules th table a x.numbered → AllByRecursion (IsPattern b) x.hyps.items
       → map (goal_at b) x.hyps.items ≡ H → AreThere c x.assumptions.items → pairs_at c x.assumptions.items ≡ A → IsLent th table H A c x
   all_lent a b c g h x n p hyps t pairs = record {
     numbered = numbered_later th table a c (grows_more a b c g h) x.numbered n;

@@ -35,10 +35,10 @@ pub fn apply(
     ensures state_sorted { IsSortedState theory.now (plain_state state.new) }
 {
     let mut work = Work::new(alloc, theory, table)?;
-    work.assume(alloc, state.hyps.as_slice())?;
+    work.add_hypotheses(alloc, state.hyps.as_slice())?;
     let (front, back) = state.goals.as_slices();
-    work.put(alloc, front)?;
-    work.put(alloc, back)?;
+    work.add_goals(alloc, front)?;
+    work.add_goals(alloc, back)?;
     let holds = work.apply(alloc, theory, gamma, step)?;
     *state = work.state(alloc)?;
     Ok(holds)
