@@ -40,6 +40,9 @@ pub fn apply(
     work.add_goals(alloc, front)?;
     work.add_goals(alloc, back)?;
     let holds = work.apply(alloc, theory, gamma, step)?;
+    if !holds {
+        return Ok(false);
+    }
     *state = work.state(alloc)?;
-    Ok(holds)
+    Ok(true)
 }
