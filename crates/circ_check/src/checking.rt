@@ -58,5 +58,5 @@ pub fn derived(alloc: Global, theory: &Theory, proof: &Proof) -> Result<Vec<Vec<
     theory.known();
     let mut checker = Checker::new(alloc, theory);
     checker.take_proof(proof)?;
-    Ok(checker.into_derived())
+    Ok(checker.take_derived())
 }

@@ -21,6 +21,7 @@ use circ_special::Gamma;
 use circ_steps::{derivatives, equations};
 use circ_theory::Goal;
 use std::alloc::AllocError;
+use std::mem::replace;
 
 impl Checker<'_> {
     /// Takes all parts of a proof. Costs a look-up for each node of the table's terms, counted as
@@ -38,11 +39,12 @@ impl Checker<'_> {
         Ok(())
     }
 
-    /// The goals that were derived.
-    pub(crate) fn into_derived(self) -> Vec<Vec<Goal>>
-        ensures { map plain_list result.items ≡ derived_of self }
+    /// The goals that were derived, which are no longer kept.
+    pub(crate) fn take_derived(&mut self) -> Vec<Vec<Goal>>
+        ensures { map plain_list result.items ≡ derived_of self.old }
     {
-        self.derived
+        let none = Vec::new(self.alloc);
+        replace(&mut self.derived, none)
     }
 
     // The table and the special set.

@@ -25,7 +25,7 @@ returns-clause-exact c =
     let k = c.take_proof.new.self in
     let P : Theory → Type 0 = λ x. Stands x (parts_of p) k in
     let s = subst P c.new-checker.ensures.sound.theory c.in_ok-take_proof.ensures in
-    subst (Derives th p) (sym c.into_derived.ensures)
+    subst (Derives th p) (sym c.take_derived.ensures)
     (found_derived th p k c.requires.fits s (none_failed th p k c.requires.fits c.requires.accepted s))
 
 pub returns-clause-sound : goal.returns-clause-sound
@@ -36,4 +36,4 @@ returns-clause-sound c =
     let P : Theory → Type 0 = λ x. Stands x (parts_of p) k in
     let s = subst P c.new-checker.ensures.sound.theory c.in_ok-take_proof.ensures in
     let d = found_derived th p k c.requires.fits s (none_failed th p k c.requires.fits c.requires.accepted s) in
-    derived_lists_behave th c.known.ensures p c.requires.fits (map plain_list c.into_derived.result.items) (subst (Derives th p) (sym c.into_derived.ensures) d)
+    derived_lists_behave th c.known.ensures p c.requires.fits (map plain_list c.take_derived.result.items) (subst (Derives th p) (sym c.take_derived.ensures) d)
