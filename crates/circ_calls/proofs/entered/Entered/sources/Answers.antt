@@ -2,7 +2,7 @@ use Rattle.std.proofs.Common.{map, ap, ◌∙◌}
 use Rattle.circ_proof.specs.Link.{setting}
 use Rattle.circ_nodes.specs.Named.{tree_at}
 use Rattle.circ_shared.specs.Patterns.{goal_at, pairs_at}
-use Rattle.circ_calls.proofs.lent.Lent.sources.Goals as goal
+use Rattle.circ_calls.proofs.entered.Entered.sources.Goals as goal
 
 pub returns-clause-shared : goal.returns-clause-shared
 returns-clause-shared c table nodes H A h =

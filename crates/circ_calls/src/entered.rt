@@ -1,6 +1,6 @@
 //! What links are read against gets numbers.
-ghost use Rattle.std.specs.Prelude.{◌≡◌, List, Option, map, IfOk};
-ghost use Rattle.std.specs.Option.{option_map};
+ghost use Rattle.std.specs.Prelude.{◌≡◌, ◌<◌, List, Option, length, map, IfOk};
+ghost use Rattle.std.specs.Option.{option_map, IfSome};
 ghost use Rattle.circ_term.specs.Growing.{Grows};
 ghost use Rattle.circ_term.specs.Tree.{Tree};
 ghost use Rattle.circ_theory.specs.Pairs.{plain_pair};
@@ -10,7 +10,7 @@ ghost use Rattle.circ_proof.specs.Link.{setting};
 ghost use Rattle.circ_nodes.specs.Named.{tree_at};
 ghost use Rattle.circ_shared.specs.Interned.{OfTerm};
 ghost use Rattle.circ_shared.specs.Settings.{AreShared, setting_at, table_at};
-ghost use Rattle.circ_calls.specs.Lent.{IsLent, IsThereIfSome};
+ghost use Rattle.circ_calls.specs.Entered.{IsEntered};
 
 use circ_entering::{Numbered, enter_hypotheses, enter_rules};
 use circ_nodes::{Nodes, Terms};
@@ -23,7 +23,7 @@ use std::alloc::{AllocError, Global};
 
 // The rules of a theory with the terms of a table, hypotheses, and assumptions, by number.
 #[derive(Drop)]
-pub(crate) struct Lent {
+pub(crate) struct Entered {
     pub(crate) numbered: Numbered,
     pub(crate) hyps: Vec<Pattern>,
     pub(crate) assumptions: Vec<Sides>,
@@ -36,23 +36,23 @@ pub(crate) fn enter(
     table: &[Term],
     hyps: &[Goal],
     assumptions: &[Pair],
-) -> Result<Lent, AllocError>
+) -> Result<Entered, AllocError>
     ensures grows { Grows nodes.old nodes.new }
-    ensures lent { IfOk result (IsLent theory.now table.now hyps.now
+    ensures entered { IfOk result (IsEntered theory.now table.now hyps.now
         (map plain_pair assumptions.now) nodes.new) }
 {
     let numbered = enter_rules(alloc, theory, nodes, table)?;
     let mut shared = Vec::with_capacity(alloc, hyps.len())?;
     enter_hypotheses(alloc, nodes, hyps, &mut shared)?;
     let assumptions = share_pairs(alloc, nodes, assumptions)?;
-    Ok(Lent {
+    Ok(Entered {
         numbered,
         hyps: shared,
         assumptions,
     })
 }
 
-impl Lent {
+impl Entered {
     // What links are read against, with a special set.
     pub(crate) fn sources<'a>(
         &'a self,
@@ -61,11 +61,11 @@ impl Lent {
         gamma: &'a Gamma,
     ) -> Sources<'a>
         ensures shared { (table nodes : List Tree) (H : List PlainGoal) (A : List PlainPair)
-            → IsLent theory.now table H A nodes self.now → AreShared nodes result }
+            → IsEntered theory.now table H A nodes self.now → AreShared nodes result }
         ensures table { (table nodes : List Tree) (H : List PlainGoal) (A : List PlainPair)
-            → IsLent theory.now table H A nodes self.now → table_at nodes result ≡ table }
+            → IsEntered theory.now table H A nodes self.now → table_at nodes result ≡ table }
         ensures setting { (table nodes : List Tree) (H : List PlainGoal) (A : List PlainPair)
-            → IsLent theory.now table H A nodes self.now
+            → IsEntered theory.now table H A nodes self.now
             → setting_at nodes result self.now.assumptions.items
             ≡ setting theory.now gamma.now H A }
     {
@@ -86,7 +86,7 @@ pub(crate) fn built(
     nodes: &Nodes,
     number: Option<u32>,
 ) -> Result<Option<Term>, AllocError>
-    requires { IsThereIfSome nodes.now number }
+    requires { IfSome number (λ n. n < length nodes.now) }
     ensures { IfOk result (λ o. o ≡ option_map (tree_at nodes.now) number) }
 {
     let Some(number) = number else {
