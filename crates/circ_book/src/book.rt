@@ -155,12 +155,12 @@ impl Ground<'_> {
             self.now.table.now book.old book.new (state_of work.old).hypotheses block.now) }
     {
         let earlier = work.hypothesis_count();
-        work.put(self.alloc, block.goals.as_slice())?;
+        work.add_goals(self.alloc, block.goals.as_slice())?;
         let met = self.meet(work, block.steps.as_slice())?;
         let told = tell(self.alloc, &mut book.nodes, met, block.steps.as_slice())?;
         book.note(told)?;
         work.keep(earlier);
-        work.assume(self.alloc, block.goals.as_slice())?;
+        work.add_hypotheses(self.alloc, block.goals.as_slice())?;
         Ok(())
     }
 

@@ -25,18 +25,18 @@ pub enum What<'a> {
     Derived { children: Vec<u32> },
 }
 
-/// A goal that a step acts on, and how many others there are.
+// A goal that a step acts on, and how many others there are.
 #[derive(Drop)]
-pub struct Met {
-    pub goal: Goal,
-    pub others: usize,
+pub(crate) struct Met {
+    pub(crate) goal: Goal,
+    pub(crate) others: usize,
 }
 
-/// The nodes of goals that are open, and of those that are derived from here on.
+// The nodes of goals that are open, and of those that are derived from here on.
 #[derive(Drop)]
-pub struct Numbers {
-    pub goals: VecDeque<u32>,
-    pub derived: VecDeque<u32>,
+pub(crate) struct Numbers {
+    pub(crate) goals: VecDeque<u32>,
+    pub(crate) derived: VecDeque<u32>,
 }
 
 // What the steps say of the goals that they act on, from the last step to the first.

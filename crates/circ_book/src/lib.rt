@@ -9,5 +9,5 @@ mod histories;
 mod meetings;
 
 pub use book::{Book, Derivations, Followed};
-pub use histories::{Met, Node, Numbers, What};
+pub use histories::{Node, What};
 pub use meetings::Ground;

@@ -1,5 +1,5 @@
 -- What was handed in as terms is there by number, and what is answered is given back as terms.
-use Rattle.std.proofs.Common.{◌≡◌, ◌↔◌, ℕ, Bool, IsTrue, List, map, Option, Some, None, Result, Ok, Err, IfOk, length, ap, sym, subst, ◌∙◌}
+use Rattle.std.proofs.Common.{◌≡◌, ◌<◌, ◌↔◌, ℕ, Bool, IsTrue, List, map, Option, Some, None, Result, Ok, Err, IfOk, length, ap, sym, subst, ◌∙◌}
 use Rattle.std.specs.List.{AllByRecursion}
 use Rattle.std.proofs.lemmas.List.{length-map}
 use Rattle.std.specs.Option.{IfSome, option_map}
@@ -17,16 +17,16 @@ use Rattle.circ_replay.specs.Following.{Follows, FollowsAll}
 use Rattle.circ_shared.specs.Interned.{OfTerm}
 use Rattle.circ_shared.specs.Patterns.{goal_at, pairs_at, AreThere, IsPattern}
 use Rattle.circ_shared.proofs.Sharing.{goals_later, patterns_later, are_there_later, pairs_later}
-use Rattle.circ_entering.specs.Numbered.{IsNumbered}
+use Rattle.circ_entering.specs.Numbered.{AreEnteredRules}
 use Rattle.circ_entering.proofs.Judged.{numbered_later}
-use Rattle.circ_calls.specs.declared.lent.Lent.{Lent}
-use Rattle.circ_calls.specs.Lent.{IsLent, IsThereIfSome}
+use Rattle.circ_calls.specs.declared.entered.Entered.{Entered}
+use Rattle.circ_calls.specs.Entered.{IsEntered}
 
 module _ (th : Theory) (table : List Tree) (H : List Goal) (A : List Pair) where
   -- the rules, the hypotheses and the assumptions got numbers one after another
-  pub all_lent : (a b c : List Tree) → Grows a b → Grows b c → (x : Lent) → IsNumbered th table a x.numbered → AllByRecursion (IsPattern b) x.hyps.items
-      → map (goal_at b) x.hyps.items ≡ H → AreThere c x.assumptions.items → pairs_at c x.assumptions.items ≡ A → IsLent th table H A c x
-  all_lent a b c g h x n p hyps t pairs = record {
+  pub all_entered : (a b c : List Tree) → Grows a b → Grows b c → (x : Entered) → AreEnteredRules th table a x.numbered → AllByRecursion (IsPattern b) x.hyps.items
+      → map (goal_at b) x.hyps.items ≡ H → AreThere c x.assumptions.items → pairs_at c x.assumptions.items ≡ A → IsEntered th table H A c x
+  all_entered a b c g h x n p hyps t pairs = record {
     numbered = numbered_later th table a c (grows_more a b c g h) x.numbered n;
     patterns = patterns_later b c h x.hyps.items p;
     hypotheses = goals_later b c h x.hyps.items p ∙ hyps;
@@ -35,8 +35,8 @@ module _ (th : Theory) (table : List Tree) (H : List Goal) (A : List Pair) where
   }
 
   -- and stay when terms are added
-  pub lent_later : (old new : List Tree) → Grows old new → (x : Lent) → IsLent th table H A old x → IsLent th table H A new x
-  lent_later old new g x h = record {
+  pub entered_later : (old new : List Tree) → Grows old new → (x : Entered) → IsEntered th table H A old x → IsEntered th table H A new x
+  entered_later old new g x h = record {
     numbered = numbered_later th table old new g x.numbered h.numbered;
     patterns = patterns_later old new g x.hyps.items h.patterns;
     hypotheses = goals_later old new g x.hyps.items h.patterns ∙ h.hypotheses;
@@ -46,7 +46,7 @@ module _ (th : Theory) (table : List Tree) (H : List Goal) (A : List Pair) where
 
 -- ---- what is given back
 
-pub there_if : (nodes : List Tree) (P : Option Tree → Type 0) (n : Option ℕ) → OfTerm nodes P n → IsThereIfSome nodes n
+pub there_if : (nodes : List Tree) (P : Option Tree → Type 0) (n : Option ℕ) → OfTerm nodes P n → IfSome n (λ k. k < length nodes)
 there_if nodes P None h = tt
 there_if nodes P (Some n) h = h.0
 

@@ -35,11 +35,14 @@ pub fn apply(
     ensures state_sorted { IsSortedState theory.now (plain_state state.new) }
 {
     let mut work = Work::new(alloc, theory, table)?;
-    work.assume(alloc, state.hyps.as_slice())?;
+    work.add_hypotheses(alloc, state.hyps.as_slice())?;
     let (front, back) = state.goals.as_slices();
-    work.put(alloc, front)?;
-    work.put(alloc, back)?;
+    work.add_goals(alloc, front)?;
+    work.add_goals(alloc, back)?;
     let holds = work.apply(alloc, theory, gamma, step)?;
+    if !holds {
+        return Ok(false);
+    }
     *state = work.state(alloc)?;
-    Ok(holds)
+    Ok(true)
 }

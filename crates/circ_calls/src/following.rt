@@ -13,7 +13,7 @@ ghost use Rattle.circ_proof.specs.Link.{IsInTable, AllOfLinks, LinkDerives};
 ghost use Rattle.circ_proof.specs.Justified.{Justified, IsWhyInTable};
 ghost use Rattle.circ_replay.specs.Following.{Follows, FollowsAll};
 
-use crate::lent::{built, enter};
+use crate::entered::{built, enter};
 use circ_nodes::Nodes;
 use circ_proof::{Link, Why};
 use circ_shared::Sides;
@@ -49,10 +49,10 @@ pub fn follow(
 {
     theory.known();
     let mut nodes = Nodes::new(alloc);
-    let lent = enter(alloc, theory, &mut nodes, table, hyps, assumptions)?;
+    let entered = enter(alloc, theory, &mut nodes, table, hyps, assumptions)?;
     let first = nodes.intern(term)?;
-    let sources = lent.sources(alloc, theory, gamma);
-    let last = sources.follow(&mut nodes, lent.assumptions.as_slice(), link, first)?;
+    let sources = entered.sources(alloc, theory, gamma);
+    let last = sources.follow(&mut nodes, entered.assumptions.as_slice(), link, first)?;
     built(alloc, &nodes, last)
 }
 
@@ -81,10 +81,10 @@ pub fn follow_all(
 {
     theory.known();
     let mut nodes = Nodes::new(alloc);
-    let lent = enter(alloc, theory, &mut nodes, table, hyps, assumptions)?;
+    let entered = enter(alloc, theory, &mut nodes, table, hyps, assumptions)?;
     let first = nodes.intern(term)?;
-    let sources = lent.sources(alloc, theory, gamma);
-    let last = sources.follow_all(&mut nodes, lent.assumptions.as_slice(), links, first)?;
+    let sources = entered.sources(alloc, theory, gamma);
+    let last = sources.follow_all(&mut nodes, entered.assumptions.as_slice(), links, first)?;
     built(alloc, &nodes, last)
 }
 
@@ -109,7 +109,7 @@ pub fn follow_why(
         (resolved_why table.now (plain_why why.now))) }
 {
     let mut nodes = Nodes::new(alloc);
-    let lent = enter(
+    let entered = enter(
         alloc,
         theory,
         &mut nodes,
@@ -119,7 +119,7 @@ pub fn follow_why(
     )?;
     let left = nodes.intern(&goal.left)?;
     let right = nodes.intern(&goal.right)?;
-    let sources = lent.sources(alloc, theory, gamma);
+    let sources = entered.sources(alloc, theory, gamma);
     let sides = Sides { left, right };
-    sources.follow_why(&mut nodes, lent.assumptions.as_slice(), sides, why)
+    sources.follow_why(&mut nodes, entered.assumptions.as_slice(), sides, why)
 }

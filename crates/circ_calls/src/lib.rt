@@ -10,8 +10,8 @@
 
 mod admitting;
 mod applying;
+mod entered;
 mod following;
-mod lent;
 
 pub use admitting::{Admission, admit};
 pub use applying::apply;

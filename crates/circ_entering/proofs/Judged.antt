@@ -11,9 +11,9 @@ use Rattle.circ_shared.proofs.Sharing.{goals_later, patterns_later}
 use Rattle.circ_steps.specs.Derivatives.{AreDerivativesAt}
 use Rattle.circ_steps.proofs.Numbering.{derivatives_later, all_later}
 use Rattle.circ_entering.specs.declared.numbered.Numbered.{Numbered}
-use Rattle.circ_entering.specs.Numbered.{IsNumbered}
+use Rattle.circ_entering.specs.Numbered.{AreEnteredRules}
 
-pub numbered_later : (th : Theory) (table old new : List Tree) → Grows old new → (x : Numbered) → IsNumbered th table old x → IsNumbered th table new x
+pub numbered_later : (th : Theory) (table old new : List Tree) → Grows old new → (x : Numbered) → AreEnteredRules th table old x → AreEnteredRules th table new x
 numbered_later th table old new g x h = record {
   equations = goals_later old new g x.equations.items h.patterns ∙ h.equations;
   patterns = patterns_later old new g x.equations.items h.patterns;
@@ -25,7 +25,7 @@ numbered_later th table old new g x h = record {
 -- they got numbers one after another
 pub all_numbered : (th : Theory) (table a b c : List Tree) → Grows a b → Grows b c → (x : Numbered) → map (goal_at a) x.equations.items ≡ map goal_of th.equations
     → AllByRecursion (IsPattern a) x.equations.items → AreDerivativesAt b th.derivatives x.derivatives.items
-    → AllByRecursion (λ n. n < length c) x.table.items → map (tree_at c) x.table.items ≡ table → IsNumbered th table c x
+    → AllByRecursion (λ n. n < length c) x.table.items → map (tree_at c) x.table.items ≡ table → AreEnteredRules th table c x
 all_numbered th table a b c g k x e p d there terms = record {
   equations = goals_later b c k x.equations.items (patterns_later a b g x.equations.items p) ∙ goals_later a b g x.equations.items p ∙ e;
   patterns = patterns_later b c k x.equations.items (patterns_later a b g x.equations.items p);

@@ -22,12 +22,12 @@ use Rattle.circ_steps.specs.declared.rules.Rules.{Rules}
 use Rattle.circ_steps.proofs.Staying.{shared_goals_later, goals_there_later}
 use Rattle.circ_entering.specs.declared.numbered.Numbered.{Numbered}
 use Rattle.circ_entering.specs.declared.work.Work.{Work}
-use Rattle.circ_entering.specs.Numbered.{IsNumbered}
+use Rattle.circ_entering.specs.Numbered.{AreEnteredRules}
 use Rattle.circ_entering.specs.Work.{state_of, table_of, IsWork}
 use Rattle.circ_entering.proofs.Judged.{numbered_later}
 
 -- the table of the numbers is theirs
-pub own_table : (th : Theory) (table nodes : List Tree) (x : Numbered) → IsNumbered th table nodes x → IsNumbered th (map (tree_at nodes) x.table.items) nodes x
+pub own_table : (th : Theory) (table nodes : List Tree) (x : Numbered) → AreEnteredRules th table nodes x → AreEnteredRules th (map (tree_at nodes) x.table.items) nodes x
 own_table th table nodes x h = record { equations = h.equations; patterns = h.patterns; derivatives = h.derivatives; there = h.there; terms = refl }
 
 -- terms were added
@@ -44,26 +44,26 @@ module _ (th : Theory) (old : Work) (h : IsWork th old) (m : List Tree) (g : Gro
   }
 
   -- hypotheses more
-  pub assumed_work : (hyps : Vec Pattern Global) → AllByRecursion (IsPattern m) hyps.items
+  pub with_hypotheses : (hyps : Vec Pattern Global) → AllByRecursion (IsPattern m) hyps.items
       → IsWork th (record old { nodes = m; state = record old.state { hyps = hyps } })
-  assumed_work hyps a =
+  with_hypotheses hyps a =
       work_stays (record old.state { hyps = hyps }) (record { hypotheses = a; goals = goals_there_later old.nodes m g old.state.goals.items h.state.goals })
 
-  pub assumed : (hyps : Vec Pattern Global) (gs : List Goal) → map (goal_at m) hyps.items ≡ map (goal_at old.nodes) old.state.hyps.items ++ gs
+  pub hypotheses_added : (hyps : Vec Pattern Global) (gs : List Goal) → map (goal_at m) hyps.items ≡ map (goal_at old.nodes) old.state.hyps.items ++ gs
       → state_of (record old { nodes = m; state = record old.state { hyps = hyps } }) ≡ state ((state_of old).hypotheses ++ gs) (state_of old).goals
-  assumed hyps gs e =
+  hypotheses_added hyps gs e =
       ap (λ H. state H (shared_goals m old.state.goals.items)) e
       ∙ ap (state (map (goal_at old.nodes) old.state.hyps.items ++ gs)) (shared_goals_later old.nodes m g old.state.goals.items h.state.goals)
 
   -- goals more
-  pub put_work : (goals : VecDeque SharedGoal Global) → AllByRecursion (IsGoalThere m) goals.items
+  pub with_goals : (goals : VecDeque SharedGoal Global) → AllByRecursion (IsGoalThere m) goals.items
       → IsWork th (record old { nodes = m; state = record old.state { goals = goals } })
-  put_work goals a =
+  with_goals goals a =
       work_stays (record old.state { goals = goals }) (record { hypotheses = patterns_later old.nodes m g old.state.hyps.items h.state.hypotheses; goals = a })
 
-  pub put_state : (goals : VecDeque SharedGoal Global) (gs : List Goal) → shared_goals m goals.items ≡ shared_goals old.nodes old.state.goals.items ++ gs
+  pub goals_added : (goals : VecDeque SharedGoal Global) (gs : List Goal) → shared_goals m goals.items ≡ shared_goals old.nodes old.state.goals.items ++ gs
       → state_of (record old { nodes = m; state = record old.state { goals = goals } }) ≡ state (state_of old).hypotheses ((state_of old).goals ++ gs)
-  put_state goals gs e =
+  goals_added goals gs e =
       ap (λ H. state H (shared_goals m goals.items)) (goals_later old.nodes m g old.state.hyps.items h.state.hypotheses)
       ∙ ap (state (map (goal_at old.nodes) old.state.hyps.items)) e
 

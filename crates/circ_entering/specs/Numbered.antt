@@ -9,7 +9,7 @@ use Rattle.circ_steps.specs.Derivatives.{AreDerivativesAt}
 use Rattle.circ_entering.specs.declared.numbered.Numbered.{Numbered}
 
 -- the equations and the derivatives are those of the theory, and the terms those of the table
-pub record IsNumbered (th : Theory) (table nodes : List Tree) (x : Numbered) : Type 0 where
+pub record AreEnteredRules (th : Theory) (table nodes : List Tree) (x : Numbered) : Type 0 where
   pub equations : map (goal_at nodes) x.equations.items ≡ map goal_of th.equations
   pub patterns : AllByRecursion (IsPattern nodes) x.equations.items
   pub derivatives : AreDerivativesAt nodes th.derivatives x.derivatives.items

@@ -7,7 +7,7 @@ use Rattle.circ_nodes.specs.Named.{tree_at}
 use Rattle.circ_nodes.specs.Built.{AreBuilt}
 use Rattle.circ_steps.specs.States.{state_at, IsStateThere}
 use Rattle.circ_entering.specs.declared.work.Work.{Work}
-use Rattle.circ_entering.specs.Numbered.{IsNumbered}
+use Rattle.circ_entering.specs.Numbered.{AreEnteredRules}
 
 -- the hypotheses and the goals with their terms
 abbrev pub state_of : Work → State
@@ -19,6 +19,6 @@ table_of w = map (tree_at w.nodes) w.numbered.table.items
 
 -- the rules are those of the theory, and all that has a number is there
 pub record IsWork (th : Theory) (w : Work) : Type 0 where
-  pub numbered : IsNumbered th (table_of w) w.nodes w.numbered
+  pub numbered : AreEnteredRules th (table_of w) w.nodes w.numbered
   pub state : IsStateThere w.nodes w.state
   pub built : AreBuilt w.nodes w.terms

@@ -27,7 +27,8 @@ pub fn enter_terms(alloc: Global, nodes: &mut Nodes, terms: &[Term]) -> Result<V
     Ok(numbers)
 }
 
-/// Goals by number are put behind those that are there. Costs as [`enter_terms`] does.
+/// Goals by number are put behind those that are there. After want of memory some of them may be.
+/// Costs as [`enter_terms`] does.
 pub fn enter_goals(
     alloc: Global,
     nodes: &mut Nodes,
@@ -36,7 +37,7 @@ pub fn enter_goals(
 ) -> Result<(), AllocError>
     requires { AllByRecursion (IsGoalThere nodes.old) entered.old.items }
     ensures grows { Grows nodes.old nodes.new }
-    ensures there { OnOk result (AllByRecursion (IsGoalThere nodes.new) entered.new.items) }
+    ensures there { AllByRecursion (IsGoalThere nodes.new) entered.new.items }
     ensures exact { OnOk result (shared_goals nodes.new entered.new.items ≡
         shared_goals nodes.old entered.old.items ++ goals.now) }
 {
@@ -55,7 +56,7 @@ pub fn enter_hypotheses(
 ) -> Result<(), AllocError>
     requires { AllByRecursion (IsPattern nodes.old) entered.old.items }
     ensures grows { Grows nodes.old nodes.new }
-    ensures there { OnOk result (AllByRecursion (IsPattern nodes.new) entered.new.items) }
+    ensures there { AllByRecursion (IsPattern nodes.new) entered.new.items }
     ensures exact { OnOk result (map (goal_at nodes.new) entered.new.items ≡
         map (goal_at nodes.old) entered.old.items ++ goals.now) }
 {

@@ -3,7 +3,7 @@ ghost use Rattle.std.specs.Prelude.{◌≡◌, List, IfOk};
 ghost use Rattle.circ_term.specs.Growing.{Grows};
 ghost use Rattle.circ_term.specs.Tree.{Tree};
 ghost use Rattle.circ_steps.specs.Judging.{AreRules, terms_at};
-ghost use Rattle.circ_entering.specs.Numbered.{IsNumbered};
+ghost use Rattle.circ_entering.specs.Numbered.{AreEnteredRules};
 
 use crate::entering::enter_terms;
 use circ_nodes::Nodes;
@@ -30,7 +30,7 @@ pub fn enter_rules(
     table: &[Term],
 ) -> Result<Numbered, AllocError>
     ensures grows { Grows nodes.old nodes.new }
-    ensures numbered { IfOk result (IsNumbered theory.now table.now nodes.new) }
+    ensures numbered { IfOk result (AreEnteredRules theory.now table.now nodes.new) }
 {
     let equations = equations(alloc, theory, nodes)?;
     let derivatives = derivatives(alloc, theory, nodes)?;
@@ -45,9 +45,9 @@ pub fn enter_rules(
 impl Numbered {
     /// What steps are judged by, with a special set.
     pub fn rules<'a>(&'a self, alloc: Global, theory: &'a Theory, gamma: &'a Gamma) -> Rules<'a>
-        ensures rules { (table nodes : List Tree) → IsNumbered theory.now table nodes self.now
+        ensures rules { (table nodes : List Tree) → AreEnteredRules theory.now table nodes self.now
             → AreRules nodes result }
-        ensures table { (table nodes : List Tree) → IsNumbered theory.now table nodes self.now
+        ensures table { (table nodes : List Tree) → AreEnteredRules theory.now table nodes self.now
             → terms_at nodes result ≡ table }
         ensures theory { result.theory.now ≡ theory.now }
         ensures gamma { result.gamma.now ≡ gamma.now }

@@ -54,11 +54,10 @@ impl Work {
         })
     }
 
-    /// These come behind the hypotheses.
-    pub fn assume(&mut self, alloc: Global, goals: &[Goal]) -> Result<(), AllocError>
+    /// These come behind the hypotheses. After want of memory some of them may.
+    pub fn add_hypotheses(&mut self, alloc: Global, goals: &[Goal]) -> Result<(), AllocError>
         requires { (th : PlainTheory) × IsWork th self.old }
-        ensures work { OnOk result ((th : PlainTheory) → IsWork th self.old
-            → IsWork th self.new) }
+        ensures work { (th : PlainTheory) → IsWork th self.old → IsWork th self.new }
         ensures table { table_of self.new ≡ table_of self.old }
         ensures state { OnOk result (state_of self.new ≡ state_with
             ((state_of self.old).hypotheses ++ goals.now) (state_of self.old).goals) }
@@ -67,11 +66,10 @@ impl Work {
         Ok(())
     }
 
-    /// These come behind the goals.
-    pub fn put(&mut self, alloc: Global, goals: &[Goal]) -> Result<(), AllocError>
+    /// These come behind the goals. After want of memory some of them may.
+    pub fn add_goals(&mut self, alloc: Global, goals: &[Goal]) -> Result<(), AllocError>
         requires { (th : PlainTheory) × IsWork th self.old }
-        ensures work { OnOk result ((th : PlainTheory) → IsWork th self.old
-            → IsWork th self.new) }
+        ensures work { (th : PlainTheory) → IsWork th self.old → IsWork th self.new }
         ensures table { table_of self.new ≡ table_of self.old }
         ensures state { OnOk result (state_of self.new ≡ state_with
             (state_of self.old).hypotheses ((state_of self.old).goals ++ goals.now)) }
@@ -150,7 +148,10 @@ impl Work {
     /// The hypotheses and the goals.
     pub fn state(&mut self, alloc: Global) -> Result<State, AllocError>
         requires { (th : PlainTheory) × IsWork th self.old }
-        ensures { IfOk result (λ s. plain_state s ≡ state_of self.old) }
+        ensures work { (th : PlainTheory) → IsWork th self.old → IsWork th self.new }
+        ensures table { table_of self.new ≡ table_of self.old }
+        ensures kept { state_of self.new ≡ state_of self.old }
+        ensures state { IfOk result (λ s. plain_state s ≡ state_of self.old) }
     {
         let nodes = &self.nodes;
         let terms = &mut self.terms;

@@ -1,11 +1,12 @@
 -- Terms by their least numbers: they stay when a table grows, and a term has one.
-use Rattle.std.specs.Prelude.{◌≡◌, ℕ, zero, suc, ◌+◌, ◌<◌, ◌==◌, Bool, true, false, ◌||◌, if◌then◌else◌, List, [], ◌∷◌, ◌++◌, length, take, drop, replicate, slice_set, Option, Some, None, refl}
+use Rattle.std.specs.Prelude.{◌≡◌, ℕ, zero, suc, ◌+◌, ◌<◌, ◌==◌, Bool, true, false, ◌||◌, if◌then◌else◌, List, [], ◌∷◌, ◌++◌, length, take, drop, Option, Some, None, refl}
 use Rattle.std.specs.List.{slice_get, AllByRecursion}
 use Rattle.std.specs.Option.{option_and_then, option_map}
 use Rattle.std.proofs.Common.{ap, sym, subst, ◌∙◌, arith, append_assoc, get_or}
 use Rattle.std.proofs.lemmas.Bool.{eqb-true, eq-eqb}
 use Rattle.std.proofs.lemmas.List.{get_or-take, drop_more}
 use Rattle.std.proofs.lemmas.Option.{same_Some, slice_get_within, slice_get_read, get_or_from_slice_get}
+use Rattle.circ_hash_chains.proofs.Lists.{get_front}
 use Rattle.circ_term.specs.Tree.{Tree, Var, trees_of}
 use Rattle.circ_term.specs.Limits.{or_else, first_limits, IsWithinLimits}
 use Rattle.circ_term.specs.Order.{is_same}
@@ -17,16 +18,6 @@ use Rattle.circ_table.specs.Lines.{picked}
 
 -- lists that go on
 
-pub get_front : {X : Type 0} (xs ys : List X) (n : ℕ) (x : X) → slice_get xs n ≡ Some x → slice_get (xs ++ ys) n ≡ Some x
-get_front [] ys n x e = absurd (cc)
-get_front (z ∷ xs) ys zero x e = e
-get_front (z ∷ xs) ys (suc n) x e = get_front xs ys n x e
-
-pub get_back : {X : Type 0} (xs ys : List X) (n : ℕ) (x : X) → n < length xs → slice_get (xs ++ ys) n ≡ Some x → slice_get xs n ≡ Some x
-get_back [] ys n x b e = absurd (omega arith)
-get_back (z ∷ xs) ys zero x b e = e
-get_back (z ∷ xs) ys (suc n) x b e = get_back xs ys n x (omega arith) e
-
 pub get_seam : {X : Type 0} (xs : List X) (x : X) (ys : List X) → slice_get (xs ++ x ∷ ys) (length xs) ≡ Some x
 get_seam [] x ys = refl
 get_seam (z ∷ xs) x ys = get_seam xs x ys
@@ -35,25 +26,6 @@ pub get_there : {X : Type 0} (xs : List X) (n : ℕ) → n < length xs → (x : 
 get_there [] n h = absurd (omega arith)
 get_there (x ∷ xs) zero h = (x, refl)
 get_there (x ∷ xs) (suc n) h = get_there xs n (omega arith)
-
--- what is read where a list was written
-
-pub get_put : {X : Type 0} (xs : List X) (i : ℕ) (x y : X) → slice_get (slice_set xs i x) i ≡ Some y → x ≡ y
-get_put [] i x y g = absurd (cc)
-get_put (z ∷ xs) zero x y g = same_Some x y g
-get_put (z ∷ xs) (suc i) x y g = get_put xs i x y g
-
-pub get_other : {X : Type 0} (xs : List X) (i j : ℕ) (x y : X) → (i ≡ j → ⊥) → slice_get (slice_set xs i x) j ≡ Some y → slice_get xs j ≡ Some y
-get_other [] i j x y h g = g
-get_other (z ∷ xs) zero zero x y h g = absurd (h refl)
-get_other (z ∷ xs) zero (suc j) x y h g = g
-get_other (z ∷ xs) (suc i) zero x y h g = g
-get_other (z ∷ xs) (suc i) (suc j) x y h g = get_other xs i j x y (λ e. h (ap suc e)) g
-
-pub get_replicate : (n x i y : ℕ) → slice_get (replicate n x) i ≡ Some y → y ≡ x
-get_replicate zero x i y e = absurd (cc)
-get_replicate (suc n) x zero y e = sym (same_Some x y e)
-get_replicate (suc n) x (suc i) y e = get_replicate n x i y e
 
 -- the term is there, by any number
 

@@ -1,6 +1,7 @@
 pub mod Firsts
 pub mod Placing
-pub mod Chains
+pub mod Finding
+pub mod Keyed
 pub mod Measuring
 pub mod Growing
 pub mod Naming

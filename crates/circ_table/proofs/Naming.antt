@@ -10,7 +10,8 @@ use Rattle.circ_table.specs.declared.named.TheConstants.{ABSENT}
 use Rattle.circ_term.specs.Growing.{Grows}
 use Rattle.circ_table.specs.Table.{firsts_at, IsIn, AreIn}
 use Rattle.circ_table.specs.Placed.{IsPlaced, ArePlacesOf, ArePlaced}
-use Rattle.circ_table.proofs.Firsts.{get_front, get_seam, get_put, get_other, firsts_next, first_parts}
+use Rattle.circ_hash_chains.proofs.Lists.{get_front, get_put, get_other}
+use Rattle.circ_table.proofs.Firsts.{get_seam, firsts_next, first_parts}
 
 -- ---- places
 

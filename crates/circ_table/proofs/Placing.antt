@@ -12,9 +12,10 @@ use Rattle.circ_proof.specs.Table.{has, number_in}
 use Rattle.circ_proof.proofs.Tables.{number_names, number_stays, number_last}
 use Rattle.circ_table.specs.declared.lines.Kind.{Kind}
 use Rattle.circ_table.specs.declared.lines.Kind.TheVariants as kinds
+use Rattle.circ_table.specs.declared.lines.Lines.{Lines}
 use Rattle.circ_table.specs.declared.lines.Row.{Row}
 use Rattle.circ_table.specs.Table.{first_at, firsts_at}
-use Rattle.circ_table.specs.Lines.{PlainRoot, node_of, tree_at, IsThere, row_root, trees_from, roots_from, begin_of, IsNode, AreRowsFrom}
+use Rattle.circ_table.specs.Lines.{PlainRoot, node_of, tree_at, IsThere, row_root, trees_from, trees, roots_from, begin_of, IsNode, AreRowsFrom, AreLines, HasMore}
 use Rattle.circ_table.proofs.Firsts.{get_seam, get_there, has_at, first_made, firsts_later, firsts_below, firsts_once, firsts_length}
 
 -- ---- arguments behind those that are read
@@ -86,6 +87,24 @@ rows_pushed args ns table start (q ∷ rows) r h e node first =
       subst R (sym root) (rows_pushed args ns (table ++ tree_at table (row_root args start q) ∷ []) q.end rows r h.1 e node first),
     )
 
+roots_longer : (args extra : List ℕ) (table : List Tree) (start : ℕ) (rows : List Row) → AreRowsFrom args table start rows → roots_from (args ++ extra) start rows ≡ roots_from args start rows
+roots_longer args extra table start [] h = refl
+roots_longer args extra table start (r ∷ rs) h =
+    let next = table ++ tree_at table (row_root args start r) ∷ [] in
+    ap (λ p. p ∷ roots_from (args ++ extra) r.end rs) (root_longer args extra start r h.0.ahead (rows_ahead args next r.end rs h.1))
+    ∙ ap (λ ps. row_root args start r ∷ ps) (roots_longer args extra next r.end rs h.1)
+
+roots_push : (args : List ℕ) (start : ℕ) (rows : List Row) (r : Row) → roots_from args start (rows ++ r ∷ []) ≡ roots_from args start rows ++ row_root args (last_end start rows) r ∷ []
+roots_push args start [] r = refl
+roots_push args start (q ∷ rows) r = ap (λ ps. row_root args start q ∷ ps) (roots_push args q.end rows r)
+
+pub roots_pushed : (args ns : List ℕ) (rows : List Row) (r : Row) → AreRowsFrom args [] 0 rows → r.end ≡ length args + length ns
+    → roots_from (args ++ ns) 0 (rows ++ r ∷ []) ≡ roots_from args 0 rows ++ with_args r ns ∷ []
+roots_pushed args ns rows r h e =
+    roots_push (args ++ ns) 0 rows r
+    ∙ ap (λ ps. ps ++ row_root (args ++ ns) (last_end 0 rows) r ∷ []) (roots_longer args ns [] 0 rows h)
+    ∙ ap (λ p. roots_from args 0 rows ++ p ∷ []) (ap (λ s. row_root (args ++ ns) s r) (rows_end args [] 0 rows h) ∙ root_last args ns r e)
+
 -- ---- a row among the others
 
 pub length_trees : (args : List ℕ) (table : List Tree) (start : ℕ) (rows : List Row) → length (trees_from args table start rows) ≡ length table + length rows
@@ -93,6 +112,10 @@ length_trees args table start [] = omega arith
 length_trees args table start (r ∷ rs) =
     let t = tree_at table (row_root args start r) in
     let e = length_trees args (table ++ t ∷ []) r.end rs in let l = length-append table (t ∷ []) in omega (arith, e, l)
+
+pub length_roots : (args : List ℕ) (start : ℕ) (rows : List Row) → length (roots_from args start rows) ≡ length rows
+length_roots args start [] = refl
+length_roots args start (r ∷ rs) = ap suc (length_roots args r.end rs)
 
 pub roots_at : (args : List ℕ) (start : ℕ) (rows : List Row) (n : ℕ) (r : Row) → slice_get rows n ≡ Some r
     → slice_get (roots_from args start rows) n ≡ Some (row_root args (begin_of start rows n) r)
@@ -212,6 +235,9 @@ module _ {table : List Tree} {n : ℕ} {r : Row} {p : PlainRoot} (k : Stands tab
   pub own_tree : tree_at table p ≡ own
   own_tree = ap (λ ts. tree_at ts p) k.split ∙ tree_later k.front (own ∷ k.rest) p k.node.there
 
+  tree_is : (t : Tree) → slice_get table n ≡ Some t → tree_at table p ≡ t
+  tree_is t e = own_tree ∙ own_is t e
+
   pub own_args : firsts_at table p.args ≡ Some (args_of own)
   own_args = ap (λ ts. firsts_at ts p.args) k.split ∙ there_later k.front (own ∷ k.rest) p k.node.there ∙ k.node.there
 
@@ -272,32 +298,40 @@ root_size args rows n r p h e f =
 
 -- ---- a term is found by its root
 
-pub found_root : (args : List ℕ) (rows : List Row) (n : ℕ) (r : Row) (p : PlainRoot) → AreRowsFrom args [] 0 rows → slice_get rows n ≡ Some r → row_root args (begin_of 0 rows n) r ≡ p
+pub found_root : (args : List ℕ) (rows : List Row) (n : ℕ) (p : PlainRoot) → AreRowsFrom args [] 0 rows → n < length rows → slice_get (roots_from args 0 rows) n ≡ Some p
     → has (trees_from args [] 0 rows) (tree_at (trees_from args [] 0 rows) p) ≡ true
-found_root args rows n r p h e same =
+found_root args rows n p h b e =
     let table = trees_from args [] 0 rows in
-    let k = (rows_at args [] 0 rows n n r h e (omega arith)).0 in
-    let P : PlainRoot → Type 0 = λ q. has table (tree_at table q) ≡ true in
-    let Q : Tree → Type 0 = λ t. has table t ≡ true in subst P same (subst Q (sym (own_tree k)) (has_at table n (own k) (own_there k)))
+    let k = (root_known args rows n p h b e).1 in
+    let P : Tree → Type 0 = λ t. has table t ≡ true in subst P (sym (own_tree k)) (has_at table n (own k) (own_there k))
 
-pub root_found : (args : List ℕ) (rows : List Row) (p : PlainRoot) → AreRowsFrom args [] 0 rows → IsThere (trees_from args [] 0 rows) p
-    → has (trees_from args [] 0 rows) (tree_at (trees_from args [] 0 rows) p) ≡ true
-    → (n : ℕ) × (r : Row) × (slice_get rows n ≡ Some r) × (r.is_first ≡ true) × (row_root args (begin_of 0 rows n) r ≡ p)
-root_found args rows p h there e =
-    let table = trees_from args [] 0 rows in
-    let t = tree_at table p in
-    let n = number_in table t in
-    let named : slice_get table n ≡ Some t = number_names table t e in
-    let below = slice_get_within table n t named in
-    let long = length_trees args [] 0 rows in
-    let r = get_there rows n (omega arith) in
-    let k = (rows_at args [] 0 rows n n r.0 h r.1 (omega arith)).0 in
-    (n, r.0, r.1, k.first ∙ ap not (fresh r.0 k (own_is k t named) (has k.front (own k)) refl), roots_once table (row_root args (begin_of 0 rows n) r.0) p (own_root k) there (own_tree k ∙ own_is k t named))
+root_named : (args : List ℕ) (rows : List Row) (n : ℕ) (p : PlainRoot) → AreRowsFrom args [] 0 rows → IsThere (trees_from args [] 0 rows) p
+    → slice_get (trees_from args [] 0 rows) n ≡ Some (tree_at (trees_from args [] 0 rows) p) → slice_get (roots_from args 0 rows) n ≡ Some p
+root_named args rows n p h there e = go q.0 q.1 (root_known args rows n q.0 h below q.1)
   where
-    fresh : (r : Row) (k : Stands (trees_from args [] 0 rows) (number_in (trees_from args [] 0 rows) (tree_at (trees_from args [] 0 rows) p)) r (row_root args (begin_of 0 rows (number_in (trees_from args [] 0 rows) (tree_at (trees_from args [] 0 rows) p))) r))
-        → own k ≡ tree_at (trees_from args [] 0 rows) p → (b : Bool) → has k.front (own k) ≡ b → has k.front (own k) ≡ false
-    fresh r k same true f = let under = number_before k f in let e = ap (number_in (trees_from args [] 0 rows)) same in absurd (omega arith)
-    fresh r k same false f = f
+    below : n < length rows
+    below = omega (arith, slice_get_within (trees_from args [] 0 rows) n (tree_at (trees_from args [] 0 rows) p) e, length_trees args [] 0 rows)
+
+    q : (x : PlainRoot) × (slice_get (roots_from args 0 rows) n ≡ Some x)
+    q = get_there (roots_from args 0 rows) n (omega (arith, below, length_roots args 0 rows))
+
+    go : (x : PlainRoot) → slice_get (roots_from args 0 rows) n ≡ Some x → (r : Row) × Stands (trees_from args [] 0 rows) n r x → slice_get (roots_from args 0 rows) n ≡ Some p
+    go x f k =
+        let table = trees_from args [] 0 rows in f ∙ ap Some (roots_once table x p (own_root k.1) there (tree_is k.1 (tree_at table p) e))
+
+pub root_not_found : (args : List ℕ) (rows : List Row) (p : PlainRoot) → AreRowsFrom args [] 0 rows → IsThere (trees_from args [] 0 rows) p
+    → ((n : ℕ) → slice_get (roots_from args 0 rows) n ≡ Some p → ⊥) → has (trees_from args [] 0 rows) (tree_at (trees_from args [] 0 rows) p) ≡ false
+root_not_found args rows p h there none = go (has table t) refl
+  where
+    table : List Tree
+    table = trees_from args [] 0 rows
+
+    t : Tree
+    t = tree_at table p
+
+    go : (b : Bool) → has table t ≡ b → has table t ≡ false
+    go true e = absurd (none (number_in table t) (root_named args rows (number_in table t) p h there (number_names table t e)))
+    go false e = e
 
 pub first_past : (table : List Tree) (n : ℕ) → length table ≤ n → first_at table n ≡ None
 first_past table n h = ap (λ o. option_and_then (λ u. if number_in table u == n then Some u else None) o) (slice_get_past table n h)
@@ -311,11 +345,14 @@ trees_within args rows n t h e =
     let k = (rows_at args [] 0 rows n n r.0 h r.1 (omega arith)).0 in let P : Tree → Type 0 = λ x. IsWithinLimits x in subst P (own_is k t e) k.node.within
 
 -- all that is known once a term went last
-pub pushed : (args ns new_args : List ℕ) (rows new_rows : List Row) (r : Row) → AreRowsFrom args [] 0 rows → r.end ≡ length args + length ns
-    → IsNode (trees_from args [] 0 rows) (with_args r ns) r.size r.depth
-    → r.is_first ≡ not (has (trees_from args [] 0 rows) (tree_at (trees_from args [] 0 rows) (with_args r ns))) → new_rows ≡ rows ++ r ∷ [] → new_args ≡ args ++ ns
-    → AreRowsFrom new_args [] 0 new_rows × (trees_from new_args [] 0 new_rows ≡ trees_from args [] 0 rows ++ tree_at (trees_from args [] 0 rows) (with_args r ns) ∷ [])
-pushed args ns new_args rows new_rows r h e node first same_rows same_args =
-    let P : List Row → Type 0 = λ x. AreRowsFrom (args ++ ns) [] 0 x × (trees_from (args ++ ns) [] 0 x ≡ trees_from args [] 0 rows ++ tree_at (trees_from args [] 0 rows) (with_args r ns) ∷ []) in
-    let Q : List ℕ → Type 0 = λ x. AreRowsFrom x [] 0 new_rows × (trees_from x [] 0 new_rows ≡ trees_from args [] 0 rows ++ tree_at (trees_from args [] 0 rows) (with_args r ns) ∷ []) in
-    subst Q (sym same_args) (subst P (sym same_rows) (rows_pushed args ns [] 0 rows r h e node first, trees_pushed args ns [] 0 rows r h e))
+pub pushed : (l new : Lines) (ns : List ℕ) (r : Row) → AreLines l → r.end ≡ length l.args.items + length ns → IsNode (trees l) (with_args r ns) r.size r.depth
+    → r.is_first ≡ not (has (trees l) (tree_at (trees l) (with_args r ns))) → new.rows.items ≡ l.rows.items ++ r ∷ [] → new.args.items ≡ l.args.items ++ ns
+    → HasMore l new (with_args r ns)
+pushed l new ns r h e node first same_rows same_args =
+    let args = l.args.items in
+    let rows = l.rows.items in
+    record {
+      lines = rw (same_rows, same_args) (rows_pushed args ns [] 0 rows r h e node first);
+      with_tree = rw (same_rows, same_args) (trees_pushed args ns [] 0 rows r h e);
+      with_root = rw (same_rows, same_args) (roots_pushed args ns rows r h e);
+    }

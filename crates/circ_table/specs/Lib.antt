@@ -2,6 +2,6 @@ pub mod Table
 pub mod Part
 pub mod Line
 pub mod Lines
-pub mod HashChains
+pub mod Keys
 pub mod Held
 pub mod Placed

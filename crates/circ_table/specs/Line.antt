@@ -1,6 +1,6 @@
 -- A line of a table.
 use Rattle.std.specs.Prelude.{◌≡◌, ℕ, List, [], Some}
-use Rattle.circ_term.specs.Tree.{Tree, Trees, Var, App, trees_of}
+use Rattle.circ_term.specs.Tree.{Tree, Var, App, trees_of}
 use Rattle.circ_table.specs.Table.{firsts_at}
 use Rattle.circ_table.specs.declared.line.Line.{Line}
 use Rattle.circ_table.specs.declared.line.Line.TheVariants as line

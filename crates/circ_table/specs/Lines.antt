@@ -79,6 +79,12 @@ AreRowsFrom args table start (r ∷ rs) =
 abbrev pub AreLines : Lines → Type 0
 AreLines l = AreRowsFrom l.args.items [] 0 l.rows.items
 
+-- a line with this root went last
+pub record HasMore (old new : Lines) (p : PlainRoot) : Type 0 where
+  pub lines : AreLines new
+  pub with_tree : trees new ≡ trees old ++ tree_at (trees old) p ∷ []
+  pub with_root : roots new ≡ roots old ++ p ∷ []
+
 -- the terms at these places
 abbrev pub picked : List Tree → List ℕ → List Tree
 picked ts [] = []

@@ -5,7 +5,7 @@
 //! terms that are asked for. A [`Part`] is what a reader hands out of a proof, the table first.
 #![tactic(auto)]
 
-mod hash_chains;
+mod keys;
 mod line;
 mod lines;
 mod named;

@@ -1,16 +1,21 @@
 //! How a table lies in memory.
-ghost use Rattle.std.specs.Prelude.{◌≡◌, ◌-◌, ◌<◌, ◌≤◌, ◌++◌, ◌∷◌};
-ghost use Rattle.std.specs.Prelude.{[], length, take, drop, Some, IfOk, OnOk, OnErr};
+ghost use Rattle.std.specs.Prelude.{◌≡◌, ◌-◌, ◌<◌, ◌≤◌, ◌↔◌, not};
+ghost use Rattle.std.specs.Prelude.{length, take, drop, Some, IsTrue, IfOk, OnOk, OnErr};
 ghost use Rattle.std.specs.List.{slice_get, AllByRecursion};
 ghost use Rattle.std.specs.Option.{option_map};
-ghost use Rattle.circ_term.specs.Tree.{Tree, sort_of, args_of};
+ghost use Rattle.circ_term.specs.Tree.{Tree, sort_of, args_of, size_of};
+ghost use Rattle.circ_proof.specs.Table.{has};
 ghost use Rattle.circ_table.specs.Line.{numbers_in, IsLine};
 ghost use Rattle.circ_table.specs.Table.{firsts_at};
 ghost use Rattle.circ_table.specs.Lines.{AreLines, plain, trees, roots, begin_of, picked};
+ghost use Rattle.circ_table.specs.Lines.{tree_at, IsNode, HasMore};
 
 use crate::line::Line;
 use circ_term::Term;
 use std::alloc::{AllocError, Global};
+
+// The most arguments of all terms.
+const MOST_NUMBERS: usize = 4_294_967_295;
 
 // What a term is.
 #[derive(Clone, Copy, PartialEq, Eq)]
@@ -87,16 +92,51 @@ impl Lines {
         Some(self.rows[number].sort)
     }
 
-    // A term goes last.
-    pub(crate) fn push(&mut self, row: Row, args: &[u32]) -> Result<(), AllocError>
-        ensures rows { OnOk result (self.new.rows.items ≡ self.old.rows.items ++ row ∷ []) }
-        ensures args { OnOk result (self.new.args.items ≡ self.old.args.items ++ args.now) }
+    // Whether the term of a place has this root, whose tree has so many nodes. Where it has not as
+    // many, its arguments are not looked at.
+    pub(crate) fn is_here(&self, place: usize, root: Root<'_>, size: u32) -> bool
+        requires lines { AreLines self.now }
+        requires place { place < length self.now.rows.items }
+        requires size { size ≡ size_of (tree_at (trees self.now) (plain root)) }
+        ensures { IsTrue result ↔ (slice_get (roots self.now) place ≡ Some (plain root.entry)) }
+    {
+        if self.rows[place].size != size {
+            return false;
+        }
+        same(self.root(place), root)
+    }
+
+    // A term goes last. After want of memory the terms are as before.
+    pub(crate) fn push(
+        &mut self,
+        root: Root<'_>,
+        size: u32,
+        depth: u16,
+        is_first: bool,
+    ) -> Result<(), AllocError>
+        requires lines { AreLines self.old }
+        requires node { IsNode (trees self.old) (plain root) size depth }
+        requires first { is_first
+            ≡ not (has (trees self.old) (tree_at (trees self.old) (plain root))) }
+        ensures pushed { OnOk result (HasMore self.old self.new (plain root.entry)) }
         ensures err_rows { OnErr result (self.new.rows.items ≡ self.old.rows.items) }
         ensures err_args { OnErr result (self.new.args.items ≡ self.old.args.items) }
     {
+        let end = self.args.len() + root.args.len();
+        if end > MOST_NUMBERS {
+            return Err(AllocError);
+        }
         self.rows.reserve(1)?;
-        self.args.extend_from_slice(args)?;
-        self.rows.push_reserved(row);
+        self.args.extend_from_slice(root.args)?;
+        self.rows.push_reserved(Row {
+            name: root.name,
+            sort: root.sort,
+            end: end as u32,
+            size,
+            depth,
+            kind: root.kind,
+            is_first,
+        });
         Ok(())
     }
 
@@ -176,6 +216,15 @@ fn part(numbers: &[u32], start: u32, end: u32) -> &[u32]
     ensures { result.now ≡ take (end - start) (drop start numbers.now) }
 {
     &numbers[start as usize..end as usize]
+}
+
+fn same(a: Root<'_>, b: Root<'_>) -> bool
+    ensures { IsTrue result ↔ (plain a.entry ≡ plain b.entry) }
+{
+    if a.kind != b.kind || a.name != b.name || a.sort != b.sort {
+        return false;
+    }
+    a.args == b.args
 }
 
 // The terms at these places.

@@ -3,21 +3,21 @@ ghost use Rattle.std.specs.Prelude.{◌≡◌, ◌*◌, ◌<◌, ◌≤◌, ◌+
 ghost use Rattle.std.specs.Prelude.{[], List, length, Some, None};
 ghost use Rattle.std.specs.Prelude.{IfOk, OnOk, OnErr};
 ghost use Rattle.std.specs.Option.{option_map};
-ghost use Rattle.circ_term.specs.Tree.{Tree, Var, App, trees_of, sort_of, sizes_of, depths_of};
+ghost use Rattle.circ_term.specs.Tree.{Tree, Var, App, trees_of, sort_of};
+ghost use Rattle.circ_term.specs.Tree.{size_of, sizes_of, depths_of};
 ghost use Rattle.circ_term.specs.Limits.{argument_limit, node_limit, depth_limit, first_limits};
-ghost use Rattle.circ_proof.specs.Table.{term_limit};
+ghost use Rattle.circ_proof.specs.Table.{term_limit, has};
 ghost use Rattle.circ_table.specs.Table.{first_at, firsts_at, AddsRow};
-ghost use Rattle.circ_table.specs.Lines.{plain, tree_at, IsNode};
+ghost use Rattle.circ_table.specs.Lines.{plain, tree_at, IsThere, IsNode};
+ghost use Rattle.circ_table.specs.Keys.{root_key};
 
-use crate::hash_chains::{HashChains, key_of};
-use crate::lines::{Kind, Lines, Root, Row};
+use crate::keys::key_of;
+use crate::lines::{Kind, Lines, Root};
 use crate::table::Table;
+use circ_hash_chains::HashChains;
 use circ_term::{MOST_DEPTH, MOST_NODES, TermFault};
 use std::alloc::{AllocError, Global};
 use std::marker::Model;
-
-// The most arguments of all terms.
-const MOST_NUMBERS: usize = 4_294_967_295;
 
 /// A table to which terms are added. It keeps numbers: 20 bytes for each term and 4 for each
 /// argument, and 12 to 16 for each term by which equal terms are found.
@@ -25,6 +25,7 @@ const MOST_NUMBERS: usize = 4_294_967_295;
 pub struct OpenTable {
     alloc: Global,
     lines: Lines,
+    // The keys of the terms' roots, in the same order.
     chains: HashChains,
 }
 
@@ -39,7 +40,7 @@ impl Model for OpenTable {
     ghost coded = { coded_list tree_code };
 
     ghost use Rattle.circ_table.specs.Lines.{trees};
-    ghost use Rattle.circ_table.specs.HashChains.{AreRows};
+    ghost use Rattle.circ_table.specs.Keys.{AreRows};
 
     ghost view = { λ a. trees a.lines };
 
@@ -156,6 +157,23 @@ impl OpenTable {
         (sizes, depths)
     }
 
+    // Whether a term has this root, which has this key and whose tree has so many nodes.
+    fn finds(&self, root: Root<'_>, size: u32, key: u32) -> bool
+        requires there { IsThere self.now (plain root) }
+        requires size { size ≡ size_of (tree_at self.now (plain root)) }
+        requires key { key ≡ root_key (plain root) }
+        ensures { result ≡ has self.now (tree_at self.now (plain root.entry)) }
+    {
+        let mut next = self.chains.newest(key);
+        while let Some(number) = next {
+            if self.lines.is_here(number as usize, root, size) {
+                return true;
+            }
+            next = self.chains.older(number);
+        }
+        false
+    }
+
     // A term goes last.
     fn push(&mut self, root: Root<'_>, size: u32, depth: u16) -> Result<(), AllocError>
         requires room { length self.old < term_limit }
@@ -164,24 +182,14 @@ impl OpenTable {
             ≡ self.old ++ tree_at self.old (plain root.entry) ∷ []) }
         ensures err { OnErr result (self.new ≡ self.old) }
     {
-        let end = self.lines.args.len() + root.args.len();
-        if end > MOST_NUMBERS {
-            return Err(AllocError);
-        }
-        self.chains.make_room(&self.lines)?;
         let key = key_of(root);
-        let is_first = !self.chains.finds(&self.lines, root, size, key);
-        let row = Row {
-            name: root.name,
-            sort: root.sort,
-            end: end as u32,
-            size,
-            depth,
-            kind: root.kind,
-            is_first,
-        };
-        self.lines.push(row, root.args)?;
-        self.chains.add(&self.lines, key);
+        let is_first = !self.finds(root, size, key);
+        let count = self.len();
+        self.chains.push(key)?;
+        if let Err(fault) = self.lines.push(root, size, depth, is_first) {
+            self.chains.truncate(count);
+            return Err(fault);
+        }
         Ok(())
     }
 }

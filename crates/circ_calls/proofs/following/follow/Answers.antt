@@ -10,7 +10,7 @@ use Rattle.circ_nodes.proofs.Located.{named_tree}
 use Rattle.circ_nodes.proofs.Numbers.{named_below}
 use Rattle.circ_replay.specs.Following.{Follows}
 use Rattle.circ_shared.specs.Settings.{setting_at, table_at}
-use Rattle.circ_calls.proofs.Judged.{lent_later, there_if, built_is, said_of, counted, if_follows}
+use Rattle.circ_calls.proofs.Judged.{entered_later, there_if, built_is, said_of, counted, if_follows}
 use Rattle.circ_calls.proofs.following.follow.Goals as goal
 
 pub follow-requires : goal.follow-requires
@@ -19,7 +19,7 @@ follow-requires c =
     let H = c.args.hyps.now in
     let A = map plain_pair c.args.assumptions.now in
     let n = c.intern.new.self in
-    let now = lent_later c.args.theory.now table H A c.enter.new.nodes n c.in_ok-first.ensures.grows c.in_ok-lent.lent c.in_ok-lent.ensures.lent in
+    let now = entered_later c.args.theory.now table H A c.enter.new.nodes n c.in_ok-first.ensures.grows c.in_ok-entered.entered c.in_ok-entered.ensures.entered in
     let l = plain_link c.args.link.now in
     let P : ℕ → Type 0 = λ k. IsInTable k l in
     record {
@@ -43,7 +43,7 @@ returns-clause-exact c =
     let H = c.args.hyps.now in
     let A = map plain_pair c.args.assumptions.now in
     let n = c.intern.new.self in
-    let now = lent_later th table H A c.enter.new.nodes n c.in_ok-first.ensures.grows c.in_ok-lent.lent c.in_ok-lent.ensures.lent in
+    let now = entered_later th table H A c.enter.new.nodes n c.in_ok-first.ensures.grows c.in_ok-entered.entered c.in_ok-entered.ensures.entered in
     let l = plain_link c.args.link.now in
     let t = c.args.term.now in
     let s = setting th c.args.gamma.now H A in
@@ -62,7 +62,7 @@ returns-clause-derivable c =
     let H = c.args.hyps.now in
     let A = map plain_pair c.args.assumptions.now in
     let n = c.intern.new.self in
-    let now = lent_later th table H A c.enter.new.nodes n c.in_ok-first.ensures.grows c.in_ok-lent.lent c.in_ok-lent.ensures.lent in
+    let now = entered_later th table H A c.enter.new.nodes n c.in_ok-first.ensures.grows c.in_ok-entered.entered c.in_ok-entered.ensures.entered in
     let l = plain_link c.args.link.now in
     let t = c.args.term.now in
     let s = setting th c.args.gamma.now H A in
@@ -84,7 +84,7 @@ returns-clause-well_sorted c =
     let H = c.args.hyps.now in
     let A = map plain_pair c.args.assumptions.now in
     let n = c.intern.new.self in
-    let now = lent_later th table H A c.enter.new.nodes n c.in_ok-first.ensures.grows c.in_ok-lent.lent c.in_ok-lent.ensures.lent in
+    let now = entered_later th table H A c.enter.new.nodes n c.in_ok-first.ensures.grows c.in_ok-entered.entered c.in_ok-entered.ensures.entered in
     let l = plain_link c.args.link.now in
     let t = c.args.term.now in
     let s = setting th c.args.gamma.now H A in
@@ -106,7 +106,7 @@ returns-clause-same_sort c =
     let H = c.args.hyps.now in
     let A = map plain_pair c.args.assumptions.now in
     let n = c.intern.new.self in
-    let now = lent_later th table H A c.enter.new.nodes n c.in_ok-first.ensures.grows c.in_ok-lent.lent c.in_ok-lent.ensures.lent in
+    let now = entered_later th table H A c.enter.new.nodes n c.in_ok-first.ensures.grows c.in_ok-entered.entered c.in_ok-entered.ensures.entered in
     let l = plain_link c.args.link.now in
     let t = c.args.term.now in
     let s = setting th c.args.gamma.now H A in

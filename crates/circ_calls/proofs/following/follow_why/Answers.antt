@@ -7,7 +7,7 @@ use Rattle.circ_nodes.specs.Named.{tree_at}
 use Rattle.circ_nodes.proofs.Located.{named_tree}
 use Rattle.circ_nodes.proofs.Numbers.{named_below, named_later, grows_more}
 use Rattle.circ_shared.specs.Settings.{setting_at, table_at}
-use Rattle.circ_calls.proofs.Judged.{lent_later, counted, justified_of}
+use Rattle.circ_calls.proofs.Judged.{entered_later, counted, justified_of}
 use Rattle.circ_calls.proofs.following.follow_why.Goals as goal
 
 pub follow_why-requires : goal.follow_why-requires
@@ -19,7 +19,7 @@ follow_why-requires c =
     let m = c.intern.new.self in
     let n = c.intern-2.new.self in
     let grows = grows_more c.enter.new.nodes m n c.in_ok-left.ensures.grows c.in_ok-right.ensures.grows in
-    let now = lent_later th table H g.conds c.enter.new.nodes n grows c.in_ok-lent.lent (rw c.as_slice.ensures at c.in_ok-lent.ensures.lent) in
+    let now = entered_later th table H g.conds c.enter.new.nodes n grows c.in_ok-entered.entered (rw c.as_slice.ensures at c.in_ok-entered.ensures.entered) in
     let w = plain_why c.args.why.now in
     let P : ℕ → Type 0 = λ k. IsWhyInTable k w in
     let left = named_later m n c.in_ok-left.left g.left c.in_ok-right.ensures.grows c.in_ok-left.ensures.named in
@@ -39,7 +39,7 @@ returns c =
     let m = c.intern.new.self in
     let n = c.intern-2.new.self in
     let grows = grows_more c.enter.new.nodes m n c.in_ok-left.ensures.grows c.in_ok-right.ensures.grows in
-    let now = lent_later th table H g.conds c.enter.new.nodes n grows c.in_ok-lent.lent (rw c.as_slice.ensures at c.in_ok-lent.ensures.lent) in
+    let now = entered_later th table H g.conds c.enter.new.nodes n grows c.in_ok-entered.entered (rw c.as_slice.ensures at c.in_ok-entered.ensures.entered) in
     let r = c.sources-sources.result in
     let s = setting th c.args.gamma.now H g.conds in
     let same : setting_at n r c.as_slice-2.result.now ≡ s

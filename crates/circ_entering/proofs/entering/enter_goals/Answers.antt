@@ -1,6 +1,7 @@
 use Rattle.std.proofs.Common.{◌++◌, refl}
 use Rattle.circ_nodes.proofs.Numbers.{grows_self, grows_more}
 use Rattle.circ_steps.specs.States.{shared_goal, shared_goals, IsGoalThere}
+use Rattle.circ_steps.proofs.Staying.{goals_there_later}
 use Rattle.circ_entering.proofs.Entered.{goals_stay, entered_next, entered_all}
 use Rattle.circ_entering.proofs.entering.enter_goals.Goals as goal
 
@@ -33,3 +34,11 @@ returns-clause-exact c =
     let gs = c.args.goals.now in
     let whole = shared_goals c.args.nodes.now c.args.entered.now.items ++ gs in
     entered_all IsGoalThere shared_goal whole gs at.nodes at.goal-index at.entered.items c.loop-goal-test.false at.invariant.entered
+
+pub returns-in_err-enter_goal-clause-there : goal.returns-in_err-enter_goal-clause-there
+returns-in_err-enter_goal-clause-there c =
+    goals_there_later c.loop-goal.nodes c.enter_goal.new.nodes c.enter_goal.ensures.grows c.loop-goal.entered.items c.loop-goal.invariant.entered.there
+
+pub returns-in_err-push_back-clause-there : goal.returns-in_err-push_back-clause-there
+returns-in_err-push_back-clause-there c =
+    rw c.in_err-push_back.ensures.items (goals_there_later c.loop-goal.nodes c.enter_goal.new.nodes c.enter_goal.ensures.grows c.loop-goal.entered.items c.loop-goal.invariant.entered.there)

@@ -1,6 +1,7 @@
 use Rattle.std.proofs.Common.{◌++◌, map, refl}
 use Rattle.circ_nodes.proofs.Numbers.{grows_self, grows_more}
 use Rattle.circ_shared.specs.Patterns.{goal_at, IsPattern}
+use Rattle.circ_shared.proofs.Sharing.{patterns_later}
 use Rattle.circ_entering.proofs.Entered.{hypotheses_stay, entered_next, entered_all}
 use Rattle.circ_entering.proofs.entering.enter_hypotheses.Goals as goal
 
@@ -33,3 +34,11 @@ returns-clause-exact c =
     let gs = c.args.goals.now in
     let whole = map (goal_at c.args.nodes.now) c.args.entered.now.items ++ gs in
     entered_all IsPattern goal_at whole gs at.nodes at.goal-index at.entered.items c.loop-goal-test.false at.invariant.entered
+
+pub returns-in_err-enter_hypothesis-clause-there : goal.returns-in_err-enter_hypothesis-clause-there
+returns-in_err-enter_hypothesis-clause-there c =
+    patterns_later c.loop-goal.nodes c.enter_hypothesis.new.nodes c.enter_hypothesis.ensures.grows c.loop-goal.entered.items c.loop-goal.invariant.entered.there
+
+pub returns-in_err-push-clause-there : goal.returns-in_err-push-clause-there
+returns-in_err-push-clause-there c =
+    rw c.in_err-push.ensures.items (patterns_later c.loop-goal.nodes c.enter_hypothesis.new.nodes c.enter_hypothesis.ensures.grows c.loop-goal.entered.items c.loop-goal.invariant.entered.there)
