@@ -52,8 +52,7 @@ returns-clause-exact c =
     let said = said_of c.follow.new.nodes (λ x S u. Follows x (resolved_link S l) u) (setting_at n r c.as_slice.result.now) s (table_at n r) table
     (tree_at n c.in_ok-first.first) t c.in_ok-last.last same (c.sources-sources.ensures.table table n H A now)
     (named_tree n c.in_ok-first.first t c.in_ok-first.ensures.named) c.in_ok-last.ensures.exact in
-    let exact = built_is c.follow.new.nodes (Follows s (resolved_link table l) t) c.in_ok-last.last c.built.result said c.built.ensures in
-    exact
+    built_is c.follow.new.nodes (Follows s (resolved_link table l) t) c.in_ok-last.last c.built.result said c.built.ensures
 
 pub returns-clause-derivable : goal.returns-clause-derivable
 returns-clause-derivable c =
@@ -61,20 +60,12 @@ returns-clause-derivable c =
     let table = c.args.table.now in
     let H = c.args.hyps.now in
     let A = map plain_pair c.args.assumptions.now in
-    let n = c.intern.new.self in
-    let now = entered_later th table H A c.enter.new.nodes n c.in_ok-first.ensures.grows c.in_ok-entered.entered c.in_ok-entered.ensures.entered in
     let l = plain_link c.args.link.now in
     let t = c.args.term.now in
     let s = setting th c.args.gamma.now H A in
-    let r = c.sources-sources.result in
-    let same : setting_at n r c.as_slice.result.now ≡ s = ap (setting_at n r) c.as_slice.ensures.value ∙ c.sources-sources.ensures.setting table n H A now in
-    let said = said_of c.follow.new.nodes (λ x S u. Follows x (resolved_link S l) u) (setting_at n r c.as_slice.result.now) s (table_at n r) table
-    (tree_at n c.in_ok-first.first) t c.in_ok-last.last same (c.sources-sources.ensures.table table n H A now)
-    (named_tree n c.in_ok-first.first t c.in_ok-first.ensures.named) c.in_ok-last.ensures.exact in
-    let exact = built_is c.follow.new.nodes (Follows s (resolved_link table l) t) c.in_ok-last.last c.built.result said c.built.ensures in
     let is = sorted_setting th c.known.ensures c.args.gamma.now H A c.requires.hyps_sorted c.requires.assumptions_sorted in
     let a = link_resolved th.signature table c.requires.table_sorted l c.requires.in_table in
-    if_follows (LinkDerives th A l t) s (resolved_link table l) t c.built.result exact
+    if_follows (LinkDerives th A l t) s (resolved_link table l) t c.built.result (returns-clause-exact c)
     (λ u e. derives_resolved th A table l t u (link_derives s is (resolved_link table l) a t u c.requires.term_sorted e))
 
 pub returns-clause-well_sorted : goal.returns-clause-well_sorted
@@ -83,20 +74,12 @@ returns-clause-well_sorted c =
     let table = c.args.table.now in
     let H = c.args.hyps.now in
     let A = map plain_pair c.args.assumptions.now in
-    let n = c.intern.new.self in
-    let now = entered_later th table H A c.enter.new.nodes n c.in_ok-first.ensures.grows c.in_ok-entered.entered c.in_ok-entered.ensures.entered in
     let l = plain_link c.args.link.now in
     let t = c.args.term.now in
     let s = setting th c.args.gamma.now H A in
-    let r = c.sources-sources.result in
-    let same : setting_at n r c.as_slice.result.now ≡ s = ap (setting_at n r) c.as_slice.ensures.value ∙ c.sources-sources.ensures.setting table n H A now in
-    let said = said_of c.follow.new.nodes (λ x S u. Follows x (resolved_link S l) u) (setting_at n r c.as_slice.result.now) s (table_at n r) table
-    (tree_at n c.in_ok-first.first) t c.in_ok-last.last same (c.sources-sources.ensures.table table n H A now)
-    (named_tree n c.in_ok-first.first t c.in_ok-first.ensures.named) c.in_ok-last.ensures.exact in
-    let exact = built_is c.follow.new.nodes (Follows s (resolved_link table l) t) c.in_ok-last.last c.built.result said c.built.ensures in
     let is = sorted_setting th c.known.ensures c.args.gamma.now H A c.requires.hyps_sorted c.requires.assumptions_sorted in
     let a = link_resolved th.signature table c.requires.table_sorted l c.requires.in_table in
-    if_follows (IsWellSorted th.signature) s (resolved_link table l) t c.built.result exact
+    if_follows (IsWellSorted th.signature) s (resolved_link table l) t c.built.result (returns-clause-exact c)
     (λ u e. (link_sorted s is (resolved_link table l) a t u c.requires.term_sorted e).well_sorted)
 
 pub returns-clause-same_sort : goal.returns-clause-same_sort
@@ -105,18 +88,10 @@ returns-clause-same_sort c =
     let table = c.args.table.now in
     let H = c.args.hyps.now in
     let A = map plain_pair c.args.assumptions.now in
-    let n = c.intern.new.self in
-    let now = entered_later th table H A c.enter.new.nodes n c.in_ok-first.ensures.grows c.in_ok-entered.entered c.in_ok-entered.ensures.entered in
     let l = plain_link c.args.link.now in
     let t = c.args.term.now in
     let s = setting th c.args.gamma.now H A in
-    let r = c.sources-sources.result in
-    let same : setting_at n r c.as_slice.result.now ≡ s = ap (setting_at n r) c.as_slice.ensures.value ∙ c.sources-sources.ensures.setting table n H A now in
-    let said = said_of c.follow.new.nodes (λ x S u. Follows x (resolved_link S l) u) (setting_at n r c.as_slice.result.now) s (table_at n r) table
-    (tree_at n c.in_ok-first.first) t c.in_ok-last.last same (c.sources-sources.ensures.table table n H A now)
-    (named_tree n c.in_ok-first.first t c.in_ok-first.ensures.named) c.in_ok-last.ensures.exact in
-    let exact = built_is c.follow.new.nodes (Follows s (resolved_link table l) t) c.in_ok-last.last c.built.result said c.built.ensures in
     let is = sorted_setting th c.known.ensures c.args.gamma.now H A c.requires.hyps_sorted c.requires.assumptions_sorted in
     let a = link_resolved th.signature table c.requires.table_sorted l c.requires.in_table in
-    if_follows (λ u. sort_of u ≡ sort_of t) s (resolved_link table l) t c.built.result exact
+    if_follows (λ u. sort_of u ≡ sort_of t) s (resolved_link table l) t c.built.result (returns-clause-exact c)
     (λ u e. (link_sorted s is (resolved_link table l) a t u c.requires.term_sorted e).same_sort)
