@@ -1,12 +1,11 @@
 -- What a glance at a range tells: that it spells nothing.
-use Rattle.std.proofs.Common.{◌≡◌, ◌⊎◌, ◌<◌, ◌≤◌, ◌+◌, ℕ, List, [], ◌∷◌, length, get_or, drop, inl, inr, sym, ◌∙◌, ap, subst, arith}
-use Rattle.std.specs.List.{slice_get}
+use Rattle.std.proofs.Common.{◌≡◌, ◌<◌, ◌≤◌, ◌+◌, ℕ, List, ◌∷◌, length, get_or, drop, inl, inr, sym, ◌∙◌, ap, subst, arith}
 use Rattle.std.proofs.lemmas.List.{drop_more, drop_all}
 use Rattle.circ_term.specs.Tree.{Tree}
 use Rattle.circ_spelling.specs.declared.grammar.Rule.{Rule}
 use Rattle.circ_spelling.specs.declared.grammar.Grammar.{Grammar}
 use Rattle.circ_spelling.specs.Limits.{opening}
-use Rattle.circ_spelling.specs.Reads.{IsToken, Reads, by_parentheses, by_variable, by_operator}
+use Rattle.circ_spelling.specs.Reads.{Reads, by_parentheses, by_variable, by_operator}
 use Rattle.circ_chart.specs.Ways.{ByRule, AnyByRule}
 use Rattle.circ_chart.proofs.Asking.{rule_in}
 

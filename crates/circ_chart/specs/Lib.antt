@@ -5,5 +5,6 @@ pub mod Ways
 pub mod Small
 pub mod Places
 pub mod Asked
+pub mod Levels
 pub mod Reader
 pub mod Tops

@@ -17,12 +17,14 @@ use Rattle.circ_chart.specs.Ways.{InParentheses, ByRule, AnyByRule, SplitAt}
 use Rattle.circ_chart.specs.Places.{HaveTables}
 use Rattle.circ_spelling.specs.May.{IsClosed}
 use Rattle.circ_chart.specs.Asked.{AreAnswers}
+use Rattle.circ_chart.specs.Levels.{AreLevels}
 
--- each rule has a word, the tables are those of the rules, the sets of ends leave out nothing, and what is kept is right
+-- each rule has a word, the tables are those of the rules, the sets of ends leave out nothing, the levels are those of the tokens, and what is kept is right
 pub record IsReady (r : Reader) (m : Memo) : Type 0 where
   pub words : HaveWords r.grammar.now
   pub tables : HaveTables r.tokens.now r.grammar.now.rules.items r.tables.now
   pub starts : IsClosed r.grammar.now r.tokens.now r.starts.now
+  pub levels : AreLevels r.grammar.now r.tokens.now r.levels.now
   pub memo : AreAnswers r.grammar.now r.tokens.now m.entries.items
 
 -- the part is of a rule of the grammar

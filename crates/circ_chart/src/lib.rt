@@ -7,6 +7,7 @@
 
 mod asked;
 mod few;
+mod levels;
 mod memo;
 mod places;
 mod reader;

@@ -26,7 +26,8 @@ pub struct Tables {
     pub symbols: Vec<Table>,
 }
 
-fn word_table(alloc: Global, tokens: &[u32], word: u32) -> Result<Table, AllocError>
+/// The table of a word.
+pub fn word_table(alloc: Global, tokens: &[u32], word: u32) -> Result<Table, AllocError>
     ensures { IfOk result (λ t. Skips tokens.now (Word word ∷ []) t.next.items) }
 {
     let mut next = vec![in alloc; tokens.len(); tokens.len() + 1]?;

@@ -15,6 +15,7 @@ ghost use Rattle.circ_chart.specs.Reader.{RowsOver, RestOver, LastOver, SplitOve
 
 use crate::asked::{Gap, Part};
 use crate::few::{Few, both, is_full};
+use crate::levels::{Levels, is_above};
 use crate::memo::{Memo, Question, kept, known_none, recalled};
 use crate::places::{Tables, can_span, next_at, table_at};
 use crate::rows::{last_rows, no_symbols, products};
@@ -36,6 +37,8 @@ pub struct Reader<'a> {
     pub tables: &'a [Tables],
     /// Where terms may end.
     pub starts: &'a [Starts],
+    /// How loosely the tokens bind.
+    pub levels: &'a Levels,
 }
 
 // Whether the rule has terms of the sort and of a precedence below the bound.
@@ -125,6 +128,9 @@ impl Reader<'_> {
         ensures { IsTrue result → (t : Tree) → TermsOver self.now wanted from to t → ⊥ }
     {
         if !may_spell(self.starts, wanted.sort as usize, from, to) {
+            return true;
+        }
+        if is_above(self.levels, wanted.below, from, to) {
             return true;
         }
         match known_none(memo, wanted, from, to) {

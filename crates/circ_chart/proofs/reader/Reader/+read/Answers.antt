@@ -39,6 +39,7 @@ terms-returns-clause-ready t c =
       words = q.ready.words;
       tables = q.ready.tables;
       starts = q.ready.starts;
+      levels = q.ready.levels;
       memo = c.in_ok-kept.ensures.kept r.grammar.now r.tokens.now q.ready.memo q.terms;
     }
 
@@ -204,6 +205,7 @@ kept_splits-returns-clause-ready t c =
       words = q.ready.words;
       tables = q.ready.tables;
       starts = q.ready.starts;
+      levels = q.ready.levels;
       memo = c.in_ok-kept.ensures.kept r.grammar.now r.tokens.now q.ready.memo (λ x e.
           let z : Some p.rule.now ≡ Some x = sym c.requires.rule ∙ e in
           let f : p.rule.now ≡ x = cc z in

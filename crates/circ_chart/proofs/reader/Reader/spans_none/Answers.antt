@@ -1,6 +1,6 @@
 use Rattle.std.proofs.Common.{length, refl}
 use Rattle.std.proofs.lemmas.Option.{slice_get_read}
-use Rattle.circ_chart.proofs.Glancing.{rule_on, rules_passed}
+use Rattle.circ_chart.proofs.Glancing.{rule_on}
 use Rattle.circ_chart.proofs.reader.Reader.spans_none.Goals as goal
 
 pub loop-number-preserved : goal.loop-number-preserved
