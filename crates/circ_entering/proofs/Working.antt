@@ -67,6 +67,25 @@ module _ (th : Theory) (old : Work) (h : IsWork th old) (m : List Tree) (g : Gro
       ap (λ H. state H (shared_goals m goals.items)) (goals_later old.nodes m g old.state.hyps.items h.state.hypotheses)
       ∙ ap (state (map (goal_at old.nodes) old.state.hyps.items)) e
 
+  -- another table
+  pub with_table : (table : Vec ℕ Global) → AllByRecursion (λ n. n < length m) table.items
+      → IsWork th (record old { nodes = m; numbered = record old.numbered { table = table } })
+  with_table table a =
+      let k = numbered_later th (table_of old) old.nodes m g old.numbered h.numbered in
+      record {
+        numbered = record { equations = k.equations; patterns = k.patterns; derivatives = k.derivatives; there = a; terms = refl };
+        state = record {
+          hypotheses = patterns_later old.nodes m g old.state.hyps.items h.state.hypotheses;
+          goals = goals_there_later old.nodes m g old.state.goals.items h.state.goals;
+        };
+        built = built_later old.nodes m old.terms g h.built;
+      }
+
+  pub same_state : (table : Vec ℕ Global) → state_of (record old { nodes = m; numbered = record old.numbered { table = table } }) ≡ state_of old
+  same_state table =
+      ap (λ H. state H (shared_goals m old.state.goals.items)) (goals_later old.nodes m g old.state.hyps.items h.state.hypotheses)
+      ∙ ap (state (map (goal_at old.nodes) old.state.hyps.items)) (shared_goals_later old.nodes m g old.state.goals.items h.state.goals)
+
 -- ---- the first hypotheses
 
 pub first_all : {X : Type 0} (P : X → Type 0) (n : ℕ) (xs : List X) → AllByRecursion P xs → AllByRecursion P (take n xs)

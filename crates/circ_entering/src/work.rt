@@ -17,7 +17,8 @@ use crate::numbered::{Numbered, enter_rules};
 use circ_nodes::{Nodes, Terms};
 use circ_proof::{State, Step};
 use circ_special::Gamma;
-use circ_steps::SharedState;
+use circ_steps::{SharedState, table_numbers};
+use circ_table::Table;
 use circ_term::Term;
 use circ_theory::{Goal, Theory};
 use std::alloc::{AllocError, Global};
@@ -52,6 +53,19 @@ impl Work {
                 goals: VecDeque::new(alloc),
             },
         })
+    }
+
+    /// The same with the terms of a table by number. Costs a look-up for each line and for each
+    /// argument in it, however large the terms are, and what the rules of the theory cost.
+    pub fn by_table(alloc: Global, theory: &Theory, table: &Table) -> Result<Work, AllocError>
+        ensures work { IfOk result (IsWork theory.now) }
+        ensures table { IfOk result (λ w. table_of w ≡ table.now) }
+        ensures state { IfOk result (λ w. state_of w ≡ state_with [] []) }
+    {
+        let mut work = Work::new(alloc, theory, &[])?;
+        let numbers = table_numbers(alloc, &mut work.nodes, table)?;
+        work.numbered.table = numbers;
+        Ok(work)
     }
 
     /// These come behind the hypotheses. After want of memory some of them may.
