@@ -21,6 +21,7 @@ use crate::histories::{Node, Numbers, tell};
 use crate::meetings::Ground;
 use circ_entering::Work;
 use circ_proof::{Block, Proof};
+use circ_table::Table;
 use circ_theory::Goal;
 use std::alloc::{AllocError, Global};
 use std::collections::VecDeque;
@@ -164,9 +165,10 @@ impl Ground<'_> {
         Ok(())
     }
 
-    /// All blocks of an accepted proof, in order. Costs what its steps cost by number, and a
-    /// look-up for each node of the table's terms, counted as trees.
-    pub fn read<'a>(&self, proof: &'a Proof) -> Result<Book<'a>, AllocError>
+    /// All blocks of an accepted proof, in order, whose table these lines are. Costs what its steps
+    /// cost by number, and a look-up for each line and for each argument in it.
+    pub fn read<'a>(&self, proof: &'a Proof, lines: &Table) -> Result<Book<'a>, AllocError>
+        requires lines { lines.now ≡ proof.now.table.items }
         requires table { self.now.table.now ≡ proof.now.table.items }
         requires gamma { self.now.gamma.now ≡ proof.now.gamma }
         requires for_theory { ProofFor self.now.theory.now (plain_proof proof.now) }
@@ -175,7 +177,7 @@ impl Ground<'_> {
         ensures { IfOk result (IsBook self.now.theory.now (plain_proof proof.now)) }
     {
         self.theory.known();
-        let mut work = Work::new(self.alloc, self.theory, self.table)?;
+        let mut work = Work::by_table(self.alloc, self.theory, lines)?;
         self.read_by(&mut work, proof)
     }
 
