@@ -1,9 +1,11 @@
 -- A proof that fits is taken part by part.
 use Rattle.std.proofs.Common.{◌≡◌, ◌≢◌, true, List, [], ◌∷◌, ◌++◌, refl, sym, subst, ◌∙◌, append_assoc, append-nil}
+use Rattle.circ_term.specs.Tree.{Tree}
 use Rattle.circ_theory.specs.Theory.{Theory}
 use Rattle.circ_theory.specs.WellFormed.{IsWellFormed}
+use Rattle.circ_special.specs.declared.place.Place.{Place}
 use Rattle.circ_proof.specs.Proof.{Proof, ProofFor}
-use Rattle.circ_proof.specs.Parts.{Part, Head, Certificate, Goals, Step, parts_of}
+use Rattle.circ_proof.specs.Parts.{Part, Head, Certificate, Goals, Step, parts_of, certificate_parts, block_parts}
 use Rattle.circ_check.specs.declared.checker.Checker.{Checker}
 use Rattle.circ_check.specs.Ready.{IsPartReady}
 use Rattle.circ_check.specs.Watching.{checking_of, IsSound, IsBehindHead, Stands, Took, HasLeft}
@@ -50,3 +52,17 @@ pub none_left : (th : Theory) (p : Proof) (k : Checker) → HasLeft th p [] k �
 none_left th p k h =
     let P : List Part → Type 0 = λ xs. Stands th xs k in
     subst P (sym (append-nil h.taken) ∙ sym h.all) h.stands
+
+-- behind the head, the certificates and the blocks are left
+pub head_left : (th : Theory) (p : Proof) (k new : Checker) → IsWellFormed th → ProofFor th p → Stands th [] k → Took k.theory.now (Head p.table p.places) k new
+    → HasLeft th p (certificate_parts p.certificates ++ block_parts p.blocks) new
+head_left th p k new ok f s took = left_taken th p (Head p.table p.places) (certificate_parts p.certificates ++ block_parts p.blocks) k (all_left th p k ok f s) new took
+
+-- so they are where the head that was taken has its table and its special set
+pub head_by_table : (th : Theory) (p : Proof) (table : List Tree) (places : List Place) (k new : Checker) → IsWellFormed th → ProofFor th p → Stands th [] k
+    → table ≡ p.table → places ≡ p.places → Took k.theory.now (Head table places) k new
+    → HasLeft th p (certificate_parts p.certificates ++ block_parts p.blocks) new
+head_by_table th p table places k new ok f s e d took =
+    let P : List Tree → Type 0 = λ ts. Took k.theory.now (Head ts places) k new in
+    let Q : List Place → Type 0 = λ gs. Took k.theory.now (Head p.table gs) k new in
+    head_left th p k new ok f s (subst Q d (subst P e took))

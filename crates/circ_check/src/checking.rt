@@ -1,6 +1,8 @@
 //! What a proof comes to.
-ghost use Rattle.std.specs.Prelude.{[], map, IfOk};
-ghost use Rattle.circ_proof.specs.Proof.{ProofFor};
+ghost use Rattle.std.specs.Prelude.{◌≡◌, map, IfOk};
+ghost use Rattle.circ_theory.specs.Theory.{Theory as PlainTheory};
+ghost use Rattle.circ_proof.specs.Proof.{Proof as PlainProof, ProofFor};
+ghost use Rattle.circ_proof.specs.Parts.{parts_of};
 ghost use Rattle.circ_proof.specs.Accepted.{Accepted, Derives};
 ghost use Rattle.circ_proof.specs.PlainProof.{plain_proof};
 ghost use Rattle.circ_check.specs.Deciding.{Decides, GoalsBehave, DerivedBehave, plain_list};
@@ -8,6 +10,7 @@ ghost use Rattle.circ_check.specs.Watching.{Stands};
 
 use crate::checker::Checker;
 use circ_proof::Proof;
+use circ_table::Table;
 use circ_theory::{Goal, Theory};
 use std::alloc::{AllocError, Global};
 
@@ -29,20 +32,38 @@ pub fn check(alloc: Global, theory: &Theory, proof: &Proof) -> Result<Verdict, A
     ensures sound { IfOk result (GoalsBehave theory.now (plain_proof proof.now)) }
 {
     let mut checker = Checker::new(alloc, theory);
-    judged(&mut checker, proof)
+    checker.take_proof(proof)?;
+    Ok(verdict_of(&checker))
 }
 
-// What the proof comes to, by a checker that has taken nothing.
-fn judged(checker: &mut Checker<'_>, proof: &Proof) -> Result<Verdict, AllocError>
-    requires fits { ProofFor checker.old.theory.now (plain_proof proof.now) }
-    requires start { Stands checker.old.theory.now [] checker.old }
-    ensures exact { IfOk result (Decides checker.old.theory.now (plain_proof proof.now)) }
-    ensures sound { IfOk result (GoalsBehave checker.old.theory.now (plain_proof proof.now)) }
+/// The same by the lines of the proof's table: a line costs a look-up for each of its arguments,
+/// however large its term is.
+pub fn check_by_table(
+    alloc: Global,
+    theory: &Theory,
+    proof: &Proof,
+    table: &Table,
+) -> Result<Verdict, AllocError>
+    requires fits { ProofFor theory.now (plain_proof proof.now) }
+    requires table { table.now ≡ proof.now.table.items }
+    ensures exact { IfOk result (Decides theory.now (plain_proof proof.now)) }
+    ensures sound { IfOk result (GoalsBehave theory.now (plain_proof proof.now)) }
 {
-    checker.take_proof(proof)?;
+    let mut checker = Checker::new(alloc, theory);
+    checker.take_by_table(proof, table)?;
+    Ok(verdict_of(&checker))
+}
+
+// What the proof comes to that the checker has taken.
+fn verdict_of(checker: &Checker<'_>) -> Verdict
+    ensures exact { (th : PlainTheory) (p : PlainProof) → ProofFor th p →
+        Stands th (parts_of p) checker.now → Decides th p result }
+    ensures sound { (th : PlainTheory) (p : PlainProof) → ProofFor th p →
+        Stands th (parts_of p) checker.now → GoalsBehave th p result }
+{
     match checker.failed() {
-        None => Ok(Verdict::Accepted),
-        Some(step) => Ok(Verdict::Refused { step }),
+        None => Verdict::Accepted,
+        Some(step) => Verdict::Refused { step },
     }
 }
 

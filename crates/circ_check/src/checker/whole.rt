@@ -1,5 +1,5 @@
 //! A proof that is taken whole.
-ghost use Rattle.std.specs.Prelude.{◌≡◌, ◌<◌, ◌++◌, ◌∷◌, [], List, length, map, OnOk};
+ghost use Rattle.std.specs.Prelude.{◌≡◌, ◌<◌, ◌++◌, ◌∷◌, [], List, length, map, IfOk, OnOk};
 ghost use Rattle.std.specs.List.{AllByRecursion};
 ghost use Rattle.circ_term.specs.Growing.{Grows};
 ghost use Rattle.circ_theory.specs.Theory.{Theory as PlainTheory};
@@ -19,6 +19,7 @@ use circ_proof::{Proof, Step};
 use circ_rules::Due;
 use circ_special::Gamma;
 use circ_steps::{derivatives, equations};
+use circ_table::Table;
 use circ_theory::Goal;
 use std::alloc::AllocError;
 use std::mem::replace;
@@ -34,8 +35,23 @@ impl Checker<'_> {
     {
         self.theory.known();
         self.begin_proof(proof)?;
-        self.take_certificates(proof)?;
-        self.take_blocks(proof)?;
+        self.take_behind_head(proof)?;
+        Ok(())
+    }
+
+    /// The same by its table's lines. Costs a look-up for each of them and for each argument in it,
+    /// however large the terms are, and what the parts cost.
+    pub(crate) fn take_by_table(&mut self, proof: &Proof, table: &Table) -> Result<(), AllocError>
+        requires table { table.now ≡ proof.now.table.items }
+        requires fits { ProofFor self.old.theory.now (plain_proof proof.now) }
+        requires start { Stands self.old.theory.now [] self.old }
+        ensures { OnOk result
+            (Stands self.old.theory.now (parts_of (plain_proof proof.now)) self.new) }
+    {
+        self.theory.known();
+        let gamma = self.special_set(proof)?;
+        self.begin(table, gamma)?;
+        self.take_behind_head(proof)?;
         Ok(())
     }
 
@@ -54,16 +70,25 @@ impl Checker<'_> {
         ensures { OnOk result (Took self.old.theory.now
             (Head proof.now.table.items proof.now.gamma) self.old self.new) }
     {
-        let places = Vec::from_slice(self.alloc, proof.gamma.places())?;
-        let Some(gamma) = Gamma::of(self.theory, places) else {
-            unreachable!()
-        };
+        let gamma = self.special_set(proof)?;
         self.enter_proof(proof)?;
         self.gamma = gamma;
         self.due = Due::all();
         self.base = self.nodes.len();
         self.is_begun = true;
         Ok(())
+    }
+
+    // The special set once more.
+    fn special_set(&self, proof: &Proof) -> Result<Gamma, AllocError>
+        requires { ProofFor self.now.theory.now (plain_proof proof.now) }
+        ensures { IfOk result (λ g. g ≡ proof.now.gamma) }
+    {
+        let places = Vec::from_slice(self.alloc, proof.gamma.places())?;
+        match Gamma::of(self.theory, places) {
+            Some(gamma) => Ok(gamma),
+            None => unreachable!(),
+        }
     }
 
     // The theory and the table get numbers.
@@ -85,6 +110,21 @@ impl Checker<'_> {
         self.equations = equations(self.alloc, self.theory, &mut self.nodes)?;
         self.derivatives = derivatives(self.alloc, self.theory, &mut self.nodes)?;
         self.table = enter_terms(self.alloc, &mut self.nodes, proof.table.as_slice())?;
+        Ok(())
+    }
+
+    // The certificates and the blocks.
+    fn take_behind_head(&mut self, proof: &Proof) -> Result<(), AllocError>
+        requires { (th : PlainTheory) × HasLeft th (plain_proof proof.now)
+            (certificate_parts (plain_certificates proof.now.certificates.items)
+            ++ block_parts (map plain_block proof.now.blocks.items)) self.old }
+        ensures { OnOk result ((th : PlainTheory) → HasLeft th (plain_proof proof.now)
+            (certificate_parts (plain_certificates proof.now.certificates.items)
+            ++ block_parts (map plain_block proof.now.blocks.items)) self.old
+            → Stands th (parts_of (plain_proof proof.now)) self.new) }
+    {
+        self.take_certificates(proof)?;
+        self.take_blocks(proof)?;
         Ok(())
     }
 
