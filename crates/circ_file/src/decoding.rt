@@ -8,7 +8,7 @@ ghost use Rattle.circ_proof_text.specs.Parts.{gather, gather_all, end_block};
 ghost use Rattle.circ_proof_text.specs.Parts.{Head, Certificate, Goals, Step as StepPart};
 ghost use Rattle.circ_file.specs.View.{plain_part, queue_of};
 ghost use Rattle.circ_file.specs.Feeding.{IsSound, Stands};
-ghost use Rattle.circ_file.specs.Decoding.{gathered_of, Decodes};
+ghost use Rattle.circ_file.specs.Decoding.{gathered_of, Decodes, DecodesWithTable};
 
 use crate::fault::FileFault;
 use crate::reader::FileReader;
@@ -23,6 +23,20 @@ use std::mem;
 pub fn decode(alloc: Global, theory: &Theory, bytes: &[u8]) -> Result<Proof, FileFault>
     ensures { Decodes theory.now bytes.now result }
 {
+    match decode_with_table(alloc, theory, bytes) {
+        Ok((proof, _)) => Ok(proof),
+        Err(fault) => Err(fault),
+    }
+}
+
+/// The same with the proof's table by number, for what goes over its lines and not over its terms.
+pub fn decode_with_table(
+    alloc: Global,
+    theory: &Theory,
+    bytes: &[u8],
+) -> Result<(Proof, Table), FileFault>
+    ensures { DecodesWithTable theory.now bytes.now result }
+{
     let mut reader = FileReader::new(alloc, theory);
     decode_by(alloc, theory, &mut reader, bytes)
 }
@@ -33,11 +47,11 @@ fn decode_by(
     theory: &Theory,
     reader: &mut FileReader,
     bytes: &[u8],
-) -> Result<Proof, FileFault>
+) -> Result<(Proof, Table), FileFault>
     requires sound { IsSound reader.old }
     requires lines { reader.old.lines ≡ 0 }
     requires stands { Stands theory.now [] [] reader.old }
-    ensures { Decodes theory.now bytes.now result }
+    ensures { DecodesWithTable theory.now bytes.now result }
 {
     if let Err(fault) = reader.feed(bytes) {
         return Err(fault);
@@ -47,30 +61,34 @@ fn decode_by(
     }
     let version = reader.version();
     match gather(alloc, version, reader) {
-        Ok(proof) => Ok(proof),
+        Ok(whole) => Ok(whole),
         Err(_) => Err(FileFault::Memory),
     }
 }
 
-// The proof of the version whose parts wait.
-fn gather(alloc: Global, version: u8, reader: &mut FileReader) -> Result<Proof, AllocError>
+// The proof of the version whose parts wait. The terms of its table are built last.
+fn gather(alloc: Global, version: u8, reader: &mut FileReader) -> Result<(Proof, Table), AllocError>
     requires sound { IsSound reader.old }
     requires fault { reader.old.fault ≡ None }
-    ensures { IfOk result (λ p. (q : PlainProof) →
+    ensures proof { IfOk result (λ r. (q : PlainProof) →
         gather_all nothing_gathered (queue_of reader.old.reader.machine) ≡ gathered q →
-        q.version ≡ version → plain_proof p ≡ q) }
+        q.version ≡ version → plain_proof r.0 ≡ q) }
+    ensures table { IfOk result (λ r. r.1 ≡ r.0.table.items) }
 {
     let mut gathering = Gathering::new(alloc, version);
     while let Some(part) = reader.next() {
         gathering.take(part)?;
     }
-    Ok(gathering.proof)
+    let terms = gathering.table.terms(alloc)?;
+    gathering.proof.table = terms;
+    Ok((gathering.proof, gathering.table))
 }
 
-// A proof so far, and its block that is not ended.
+// A proof so far, whose terms are not built yet, and its block that is not ended.
 #[derive(Drop)]
 struct Gathering {
     alloc: Global,
+    table: Table,
     proof: Proof,
     goals: Vec<Goal>,
     names: Vec<GoalNames>,
@@ -84,6 +102,7 @@ impl Gathering {
     {
         Gathering {
             alloc,
+            table: Table::empty(alloc),
             proof: Proof {
                 version,
                 table: Vec::new(alloc),
@@ -104,7 +123,10 @@ impl Gathering {
             gather (gathered_of self.old) (plain_part part)) }
     {
         match part {
-            Part::Head { table, gamma } => self.take_head(table, gamma),
+            Part::Head { table, gamma } => {
+                self.take_head(table, gamma);
+                Ok(())
+            }
             Part::Certificate { links } => self.take_certificate(links),
             Part::Goals { goals, names } => {
                 self.take_goals(goals, names);
@@ -114,14 +136,12 @@ impl Gathering {
         }
     }
 
-    fn take_head(&mut self, table: Table, gamma: Gamma) -> Result<(), AllocError>
+    fn take_head(&mut self, table: Table, gamma: Gamma)
         ensures version { self.new.proof.version ≡ self.old.proof.version }
-        ensures gathered { IfOk result (λ _. gathered_of self.new ≡
-            gather (gathered_of self.old) (Head table gamma)) }
+        ensures gathered { gathered_of self.new ≡ gather (gathered_of self.old) (Head table gamma) }
     {
-        self.proof.table = table.terms(self.alloc)?;
+        self.table = table;
         self.proof.gamma = gamma;
-        Ok(())
     }
 
     fn take_certificate(&mut self, links: Vec<Link>) -> Result<(), AllocError>

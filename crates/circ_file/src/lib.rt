@@ -22,7 +22,7 @@ mod table;
 mod taken;
 mod writing;
 
-pub use decoding::decode;
+pub use decoding::{decode, decode_with_table};
 pub use encoding::encode;
 pub use fault::FileFault;
 pub use reader::FileReader;

@@ -27,4 +27,4 @@ returns-in-Ok c =
     let whole = c.in_default-end.ensures.stands th c.args.bytes.now [] stands in
     let parts = ap (gather_all nothing_gathered) whole.2 ∙ parts_gathered th whole.0 whole.1.proof_for in
     let P : Proof → Type 0 = λ p. ReadsAsProof th c.args.bytes.now p in
-    subst P (sym (c.in-Ok.ensures whole.0 parts (whole.3 ∙ sym c.version-version.ensures))) whole.1
+    (subst P (sym (c.in-Ok.ensures.proof whole.0 parts (whole.3 ∙ sym c.version-version.ensures))) whole.1, c.in-Ok.ensures.table)
