@@ -23,6 +23,7 @@ use crate::opening::write_out;
 use circ_book::Ground;
 use circ_entry::Entry;
 use circ_proof::Proof;
+use circ_table::Table;
 use circ_tasks::{Frame, Halt};
 use circ_term::TermFault;
 use circ_theory::Theory;
@@ -31,14 +32,16 @@ use std::alloc::Global;
 
 /// The derivation from the experiment on the left side of a goal, counted from 0, to that on its
 /// right side, with no hypothesis. There are 100,000 units: each use of a goal, each link and each
-/// split is one.
+/// split is one. The proof's steps are done again by the lines of its table.
 pub fn expand(
     alloc: Global,
     theory: &Theory,
     proof: &Proof,
+    lines: &Table,
     goal: u32,
     entries: &[Entry],
 ) -> Result<Vec<Row>, ExpandFault>
+    requires lines { lines.now ≡ proof.now.table.items }
     requires for_theory { ProofFor theory.now (plain_proof proof.now) }
     requires plain { IsPlain (plain_proof proof.now) }
     requires accepted { Accepted theory.now (plain_proof proof.now) }
@@ -50,7 +53,7 @@ pub fn expand(
         LeadsOnGoal theory.now xs (plain_entries entries.now) g) }
 {
     theory.known();
-    match written(alloc, &*theory, &*proof, goal, entries) {
+    match written(alloc, &*theory, &*proof, lines, goal, entries) {
         Ok(rows) => Ok(rows),
         Err(halt) => Err(fault_of(halt)),
     }
@@ -84,9 +87,11 @@ fn written<'x>(
     alloc: Global,
     theory: &'x Theory,
     proof: &'x Proof,
+    lines: &Table,
     goal: u32,
     entries: &[Entry],
 ) -> Result<Vec<Row>, Halt>
+    requires lines { lines.now ≡ proof.now.table.items }
     requires for_theory { ProofFor theory.now (plain_proof proof.now) }
     requires plain { IsPlain (plain_proof proof.now) }
     requires accepted { Accepted theory.now (plain_proof proof.now) }
@@ -100,7 +105,7 @@ fn written<'x>(
         table: proof.table.as_slice(),
         gamma: &proof.gamma,
     };
-    let book = ground.read(proof)?;
+    let book = ground.read(proof, lines)?;
     let frame = Frame {
         alloc,
         theory,
