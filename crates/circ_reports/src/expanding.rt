@@ -22,12 +22,13 @@ ghost use Rattle.circ_reports.specs.Expand.{number_before, rows_text};
 use crate::fresh::fresh_experiment;
 use crate::proof_file::take_plain_proof;
 use crate::rows::rows_text;
-use circ_check::{Verdict, check};
+use circ_check::{Verdict, check_by_table};
 use circ_entry::Entry;
 use circ_expand::{ExpandFault, Row, expand as write_out, goal_misfit, goal_numbered};
 use circ_files::{Status, take_theory};
 use circ_outer::Shelf;
 use circ_proof::Proof;
+use circ_table::Table;
 use circ_theory::{Goal, Theory};
 use std::alloc::Global;
 
@@ -52,11 +53,18 @@ pub fn expand<S: Shelf>(
         Ok(theory) => theory,
         Err(status) => return Err(status),
     };
-    let proof = match take_plain_proof(alloc, shelf, &theory, proof) {
-        Ok(proof) => proof,
+    let taken = match take_plain_proof(alloc, shelf, &theory, proof) {
+        Ok(taken) => taken,
         Err(status) => return Err(status),
     };
-    expand_proof(alloc, &theory, &proof, goal, derivatives)
+    expand_proof(
+        alloc,
+        &theory,
+        &taken.proof,
+        &taken.table,
+        goal,
+        derivatives,
+    )
 }
 
 /// The same of a proof without conditions.
@@ -65,18 +73,20 @@ fn expand_proof(
     alloc: Global,
     theory: &Theory,
     proof: &Proof,
+    table: &Table,
     goal: u32,
     derivatives: &[u32],
 ) -> Result<Vec<u8>, Status>
     requires fits { ProofFor theory.now (plain_proof proof.now) }
     requires plain { IsPlain (plain_proof proof.now) }
+    requires table { table.now ≡ proof.now.table.items }
     ensures expands { IfOk result (λ v.
         Expands theory.now (plain_proof proof.now) goal derivatives.now v.items) }
     ensures none { IfErr result
         (GivesNone theory.now (plain_proof proof.now) goal derivatives.now) }
 {
-    match check(alloc, theory, proof)? {
-        Verdict::Accepted => expand_accepted(alloc, theory, proof, goal, derivatives),
+    match check_by_table(alloc, theory, proof, table)? {
+        Verdict::Accepted => expand_accepted(alloc, theory, proof, table, goal, derivatives),
         Verdict::Refused { step } => Err(Status::Refused { step }),
     }
 }
@@ -86,11 +96,13 @@ fn expand_accepted(
     alloc: Global,
     theory: &Theory,
     proof: &Proof,
+    table: &Table,
     goal: u32,
     derivatives: &[u32],
 ) -> Result<Vec<u8>, Status>
     requires fits { ProofFor theory.now (plain_proof proof.now) }
     requires plain { IsPlain (plain_proof proof.now) }
+    requires table { table.now ≡ proof.now.table.items }
     requires accepted { Accepted theory.now (plain_proof proof.now) }
     ensures writes { IfOk result (λ v. Writes theory.now
         (expanded theory.now (plain_proof proof.now) goal derivatives.now) v.items) }
@@ -102,7 +114,7 @@ fn expand_accepted(
     let Some(number) = number_before(goal) else {
         return Err(Status::Misfit { entry: 0 });
     };
-    expand_goal(alloc, theory, proof, number, derivatives)
+    expand_goal(alloc, theory, proof, table, number, derivatives)
 }
 
 /// The number counted from 0, of one that counts from 1.
@@ -121,11 +133,13 @@ fn expand_goal(
     alloc: Global,
     theory: &Theory,
     proof: &Proof,
+    table: &Table,
     number: u32,
     derivatives: &[u32],
 ) -> Result<Vec<u8>, Status>
     requires fits { ProofFor theory.now (plain_proof proof.now) }
     requires plain { IsPlain (plain_proof proof.now) }
+    requires table { table.now ≡ proof.now.table.items }
     requires accepted { Accepted theory.now (plain_proof proof.now) }
     ensures writes { IfOk result (λ v. Writes theory.now (by_goal theory.now
         (plain_proof proof.now) number derivatives.now
@@ -148,7 +162,7 @@ fn expand_goal(
             entry: entry as u64,
         });
     }
-    derivation(alloc, theory, proof, number, goal, entries)
+    derivation(alloc, theory, proof, table, number, goal, entries)
 }
 
 /// The same for an experiment on it that fits.
@@ -157,12 +171,14 @@ fn derivation(
     alloc: Global,
     theory: &Theory,
     proof: &Proof,
+    table: &Table,
     number: u32,
     goal: &Goal,
     entries: &[Entry],
 ) -> Result<Vec<u8>, Status>
     requires fits { ProofFor theory.now (plain_proof proof.now) }
     requires plain { IsPlain (plain_proof proof.now) }
+    requires table { table.now ≡ proof.now.table.items }
     requires accepted { Accepted theory.now (plain_proof proof.now) }
     requires experiment { FitGoal theory.now (plain_proof proof.now) number
         (plain_entries entries.now) }
@@ -177,7 +193,7 @@ fn derivation(
         (expansion 100000 theory.now (plain_proof proof.now) number
         (plain_entries entries.now)))) }
 {
-    match write_out(alloc, theory, proof, number, entries) {
+    match write_out(alloc, theory, proof, table, number, entries) {
         Ok(rows) => text_of(alloc, theory, entries, goal, rows.as_slice()),
         Err(fault) => Err(none_written(fault)),
     }

@@ -1,5 +1,5 @@
 //! The proof that a file reads as, whole.
-ghost use Rattle.std.specs.Prelude.{IfOk, IfErr};
+ghost use Rattle.std.specs.Prelude.{◌≡◌, IfOk, IfErr};
 ghost use Rattle.circ_outer.specs.Shelf.{ShelfFrame};
 ghost use Rattle.circ_proof.specs.PlainProof.{plain_proof};
 ghost use Rattle.circ_proof.specs.Proof.{ProofFor};
@@ -9,15 +9,23 @@ ghost use Rattle.circ_reports.specs.PlainProof.{TakesPlainProof, IsPlainProofFau
 
 use crate::incoming::refusal;
 use crate::left_out::left_out;
-use circ_file::decode;
+use circ_file::decode_with_table;
 use circ_files::{CHECKED_FILE, Status, take_file};
 use circ_form::Text;
 use circ_outer::Shelf;
 use circ_proof::Proof;
 use circ_proof_text::laws::one_answer;
 use circ_read::Cause;
+use circ_table::Table;
 use circ_theory::Theory;
 use std::alloc::Global;
+
+/// A proof, and its table by number.
+#[derive(Drop)]
+pub(crate) struct TakenProof {
+    pub(crate) proof: Proof,
+    pub(crate) table: Table,
+}
 
 /// The proof that file 2 reads as in this theory, or why there is none.
 pub(crate) fn take_proof<S: Shelf>(
@@ -25,10 +33,11 @@ pub(crate) fn take_proof<S: Shelf>(
     shelf: &mut S,
     theory: &Theory,
     name: &str,
-) -> Result<Proof, Status>
-    ensures takes { IfOk result (λ p.
-        TakesProof name.now theory.now (plain_proof p) (S.state shelf.old)) }
-    ensures fits { IfOk result (λ p. ProofFor theory.now (plain_proof p)) }
+) -> Result<TakenProof, Status>
+    ensures takes { IfOk result (λ t.
+        TakesProof name.now theory.now (plain_proof t.proof) (S.state shelf.old)) }
+    ensures fits { IfOk result (λ t. ProofFor theory.now (plain_proof t.proof)) }
+    ensures table { IfOk result (λ t. t.table ≡ t.proof.table.items) }
     ensures fault { IfErr result
         (IsProofFault name.now theory.now (S.state shelf.old) (S.state shelf.new)) }
     ensures quiet { IsQuietCall (S.state shelf.old) (S.state shelf.new) result }
@@ -40,8 +49,8 @@ pub(crate) fn take_proof<S: Shelf>(
     };
     theory.known();
     one_answer();
-    match decode(alloc, theory, bytes.as_slice()) {
-        Ok(proof) => Ok(proof),
+    match decode_with_table(alloc, theory, bytes.as_slice()) {
+        Ok((proof, table)) => Ok(TakenProof { proof, table }),
         Err(fault) => Err(refusal(fault)),
     }
 }
@@ -52,19 +61,20 @@ pub(crate) fn take_plain_proof<S: Shelf>(
     shelf: &mut S,
     theory: &Theory,
     name: &str,
-) -> Result<Proof, Status>
-    ensures takes { IfOk result (λ p.
-        TakesPlainProof name.now theory.now (plain_proof p) (S.state shelf.old)) }
+) -> Result<TakenProof, Status>
+    ensures takes { IfOk result (λ t.
+        TakesPlainProof name.now theory.now (plain_proof t.proof) (S.state shelf.old)) }
+    ensures table { IfOk result (λ t. t.table ≡ t.proof.table.items) }
     ensures fault { IfErr result
         (IsPlainProofFault name.now theory.now (S.state shelf.old) (S.state shelf.new)) }
     ensures quiet { IsQuietCall (S.state shelf.old) (S.state shelf.new) result }
     ensures frame { ShelfFrame (S.state shelf.old) (S.state shelf.new) }
 {
-    let proof = match take_proof(alloc, shelf, theory, name) {
-        Ok(proof) => proof,
+    let taken = match take_proof(alloc, shelf, theory, name) {
+        Ok(taken) => taken,
         Err(status) => return Err(status),
     };
-    if let Some(word) = left_out(&proof) {
+    if let Some(word) = left_out(&taken.proof) {
         let word = Text::of(alloc, word)?;
         return Err(Status::Unreadable {
             file: CHECKED_FILE,
@@ -72,5 +82,5 @@ pub(crate) fn take_plain_proof<S: Shelf>(
             cause: Cause::LeftOut { word },
         });
     }
-    Ok(proof)
+    Ok(taken)
 }

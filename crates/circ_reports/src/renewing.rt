@@ -45,7 +45,7 @@ pub fn upgrade<'a, S: Shelf>(
         Err(status) => return Err(status),
     };
     let mut proof = match take_proof(alloc, shelf, &theory, proof) {
-        Ok(proof) => proof,
+        Ok(taken) => taken.proof,
         Err(status) => return Err(status),
     };
     Ok(give_anew(alloc, &theory, &mut proof, name)?)

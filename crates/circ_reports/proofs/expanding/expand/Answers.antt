@@ -15,13 +15,13 @@ returns-in-Err-take_plain_proof-clause-refused g c =
     c.in-Ok.ensures.frame c.in-Ok.ensures.quiet c.in-Err-take_plain_proof.ensures.fault)
 
 pub expand_proof-requires-clause-plain : goal.expand_proof-requires-clause-plain
-expand_proof-requires-clause-plain g c = nothing_left_out (plain_proof c.in-Ok-take_plain_proof.proof) c.in-Ok-take_plain_proof.ensures.takes.plain
+expand_proof-requires-clause-plain g c = nothing_left_out (plain_proof c.in-Ok-take_plain_proof.taken.proof) c.in-Ok-take_plain_proof.ensures.takes.plain
 
 pub returns-clause-expanded : goal.returns-clause-expanded
 returns-clause-expanded g c =
     let before = g.S.Shelf.state c.args.shelf.now in
     let th = c.in-Ok.theory in
-    let p = plain_proof c.in-Ok-take_plain_proof.proof in
+    let p = plain_proof c.in-Ok-take_plain_proof.taken.proof in
     let t = c.in-Ok-take_plain_proof.ensures.takes in
     if_ok (λ v. Expands th p c.args.goal c.args.derivatives.now v.items)
     (λ v. IsExpanded c.args.theory.now c.args.proof.now c.args.goal c.args.derivatives.now v.items before) c.expand_proof.result c.expand_proof.ensures.expands
@@ -38,7 +38,7 @@ returns-clause-refused g c =
     let before = g.S.Shelf.state c.args.shelf.now in
     let after = g.S.Shelf.state c.take_plain_proof.new.shelf in
     let th = c.in-Ok.theory in
-    let p = plain_proof c.in-Ok-take_plain_proof.proof in
+    let p = plain_proof c.in-Ok-take_plain_proof.taken.proof in
     let t = c.in-Ok-take_plain_proof.ensures.takes in
     let taken : TakesPlainProof c.args.proof.now th p before =
     record { takes = taken_before c.args.proof.now th p _ _ c.in-Ok.ensures.frame t.takes; plain = t.plain } in

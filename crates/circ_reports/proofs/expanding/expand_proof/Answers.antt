@@ -9,9 +9,9 @@ returns-in-Accepted-clause-none c =
     let th = c.args.theory.now in
     let p = plain_proof c.args.proof.now in
     let ks = c.args.derivatives.now in
-    let accepted = rw c.in-Accepted.is at c.in_ok-check.ensures.exact in
+    let accepted = rw c.in-Accepted.is at c.in_ok-check_by_table.ensures.exact in
     if_err (WritesNone (expanded th p c.args.goal ks)) (GivesNone th p c.args.goal ks) c.expand_accepted.result c.expand_accepted.ensures.none
     (λ s x. gives_none th p c.args.goal ks s accepted x)
 
 pub returns-in-Refused-clause-none : goal.returns-in-Refused-clause-none
-returns-in-Refused-clause-none c = step_fails c.in-Refused.step (rw c.in-Refused.is at c.in_ok-check.ensures.exact)
+returns-in-Refused-clause-none c = step_fails c.in-Refused.step (rw c.in-Refused.is at c.in_ok-check_by_table.ensures.exact)

@@ -16,7 +16,7 @@ returns-in-Err-clause-fault g c =
 pub returns-in-Some-clause-fault : goal.returns-in-Some-clause-fault
 returns-in-Some-clause-fault g c =
     let th = c.args.theory.now in
-    let p = plain_proof c.in-Ok.proof in
+    let p = plain_proof c.in-Ok.taken.proof in
     let t = c.in-Ok.ensures.takes in
     let some : left_out p ≡ Some c.in-Some.word.now = sym c.in-Some.ensures in
     let refused : (bytes : List ℕ) → ReadsAsProof th bytes p → PlainProofRefusal th 0 (cause.LeftOut c.in_ok-word.word) bytes =

@@ -16,7 +16,7 @@ returns-in-Err-take_proof-clause-refused g c =
 
 pub returns-clause-upgraded : goal.returns-clause-upgraded
 returns-clause-upgraded g c =
-    let p = plain_proof c.in-Ok-take_proof.proof in
+    let p = plain_proof c.in-Ok-take_proof.taken.proof in
     let given = c.in_ok-give_anew.ensures in (
       ap (λ e. e.status) given,
       record {
