@@ -13,8 +13,8 @@ use Rattle.circ_files.specs.Like.{IsLikeCause}
 use Rattle.circ_files.specs.ProofFile.{TakesProof}
 use Rattle.circ_files.specs.Quiet.{IsQuietBut, IsQuietCall}
 use Rattle.circ_files.specs.declared.files.TheConstants.{MOST_BYTES}
-use Rattle.circ_files.specs.declared.status.Status.{Status}
-use Rattle.circ_files.specs.declared.status.Status.TheVariants as status
+use Rattle.circ_status.specs.declared.status.Status.{Status}
+use Rattle.circ_status.specs.declared.status.Status.TheVariants as status
 
 -- what a file held after a call it held before
 pub moved : (h k : Held) (name : List ℕ) (P : List ℕ → Type 0) → k name ≡ h name → Holds k name P → Holds h name P

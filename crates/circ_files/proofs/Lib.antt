@@ -1,5 +1,4 @@
 pub mod Rules
-pub mod Joined
 pub mod FileFaults
 pub mod Readings
 pub mod Scripts

@@ -7,8 +7,8 @@ use Rattle.circ_read.specs.declared.cause.Cause.{Cause}
 use Rattle.circ_files.specs.declared.files.TakeFault.{TakeFault}
 use Rattle.circ_files.specs.declared.files.TakeFault.TheVariants as taking
 use Rattle.circ_files.specs.declared.files.TheConstants.{MOST_BYTES, PIECE}
-use Rattle.circ_files.specs.declared.status.Status.{Status}
-use Rattle.circ_files.specs.declared.status.Status.TheVariants as status
+use Rattle.circ_status.specs.declared.status.Status.{Status}
+use Rattle.circ_status.specs.declared.status.Status.TheVariants as status
 
 -- a fault of the outside, as that of a file that was not taken
 abbrev pub take_fault : OuterFault → TakeFault

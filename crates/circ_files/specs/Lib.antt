@@ -1,7 +1,4 @@
-pub mod Status
-pub mod Texts
 pub mod Refusals
-pub mod Ending
 pub mod Like
 pub mod Files
 pub mod Intake

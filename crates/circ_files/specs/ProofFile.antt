@@ -7,7 +7,7 @@ use Rattle.circ_proof.specs.Proof.{Proof}
 use Rattle.circ_proof_text.specs.ProofText.{ReadsAsProof, FirstCause}
 use Rattle.circ_read.specs.declared.cause.Cause.TheVariants.{Line, LineLimit}
 use Rattle.circ_files.specs.Files.{Held, IsOnly, AreBytes, Holds, Refusal, IsFileFault}
-use Rattle.circ_files.specs.declared.status.Status.{Status}
+use Rattle.circ_status.specs.declared.status.Status.{Status}
 
 -- The named file reads as p.
 abbrev pub ReadsProof : Held → (name : List ℕ) → Theory → Proof → Type 0

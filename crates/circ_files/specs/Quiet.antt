@@ -3,8 +3,8 @@ use Rattle.std.specs.Prelude.{Result, Ok, Err}
 use Rattle.circ_outer.specs.Shelf.{ShelfState, IsQuiet}
 use Rattle.circ_files.specs.declared.files.TakeFault.{TakeFault}
 use Rattle.circ_files.specs.declared.files.TakeFault.TheVariants.{Failed}
-use Rattle.circ_files.specs.declared.status.Status.{Status}
-use Rattle.circ_files.specs.declared.status.Status.TheVariants.{ReadFault}
+use Rattle.circ_status.specs.declared.status.Status.{Status}
+use Rattle.circ_status.specs.declared.status.Status.TheVariants.{ReadFault}
 
 -- only a file that was not read
 abbrev pub IsQuietBut : (before after : ShelfState) → Status → Type 0

@@ -1,8 +1,8 @@
 -- The texts of refusals, by what the places of the files are.
 use Rattle.std.specs.Prelude.{ℕ, List, [], ◌==◌, codes, if◌then◌else◌}
-use Rattle.circ_files.specs.Texts.{refused_text, unreadable_text, too_long_text, spent_text, too_big_text, too_deep_text, long_expansion_text, misfit_text}
-use Rattle.circ_files.specs.declared.status.Status.{Status}
-use Rattle.circ_files.specs.declared.status.Status.TheVariants as status
+use Rattle.circ_status.specs.Texts.{refused_text, unreadable_text, too_long_text, spent_text, too_big_text, too_deep_text, long_expansion_text, misfit_text}
+use Rattle.circ_status.specs.declared.status.Status.{Status}
+use Rattle.circ_status.specs.declared.status.Status.TheVariants as status
 
 -- the places of each file are statements
 abbrev pub statement_places : (file : ℕ) → List ℕ

@@ -7,7 +7,7 @@ use Rattle.circ_script.specs.Script.{Script}
 use Rattle.circ_script.specs.ReadsAsScript.{ReadsAsScript}
 use Rattle.circ_script.specs.Refusing.{FirstScriptCause}
 use Rattle.circ_files.specs.Files.{Held, IsOnly, AreBytes, Holds, Refusal, IsFileFault}
-use Rattle.circ_files.specs.declared.status.Status.{Status}
+use Rattle.circ_status.specs.declared.status.Status.{Status}
 
 -- The named file reads as s, a script for the job.
 abbrev pub ReadsScript : Held → (name : List ℕ) → Theory → Job → Script → Type 0

@@ -7,8 +7,8 @@ ghost use Rattle.circ_files.specs.Intake.{TakesBytes};
 ghost use Rattle.circ_files.specs.Quiet.{IsQuietCall, IsQuietTaking};
 
 use crate::intake::Intake;
-use crate::status::Status;
 use circ_outer::{OuterFault, Shelf};
+use circ_status::Status;
 use std::alloc::{AllocError, Global};
 
 /// The most bytes of a file.

@@ -6,11 +6,11 @@ ghost use Rattle.circ_files.specs.Quiet.{IsQuietCall};
 ghost use Rattle.circ_files.specs.ScriptFile.{TakesScript, IsScriptFault};
 
 use crate::files::take_file;
-use crate::status::{SCRIPT_FILE, Status};
 use circ_outer::Shelf;
 use circ_read::ReadFault;
 use circ_script::laws::read_in_one_way;
 use circ_script::{Job, Script, read_script};
+use circ_status::{SCRIPT_FILE, Status};
 use circ_theory::Theory;
 use std::alloc::Global;
 

@@ -5,10 +5,10 @@ ghost use Rattle.circ_files.specs.Quiet.{IsQuietCall};
 ghost use Rattle.circ_files.specs.TheoryFile.{TakesTheory, IsTheoryFault};
 
 use crate::files::take_file;
-use crate::status::{Status, THEORY_FILE};
 use circ_outer::Shelf;
 use circ_read::laws::read_in_one_way;
 use circ_read::{ReadFault, read_theory};
+use circ_status::{Status, THEORY_FILE};
 use circ_theory::Theory;
 use std::alloc::Global;
 

@@ -12,8 +12,8 @@ use Rattle.circ_show.specs.EntryText.{IsEntry}
 use Rattle.circ_refute.specs.PlainRefutation.{Refuted, Told_apart, Alike, Spent, Past_limit, Decision, PlainRefutation, goals_in}
 use Rattle.circ_refute.specs.Difference.{IsRightOf, IsRightDecision}
 use Rattle.circ_found.specs.Differing.{AreEntries, DifferEnds, decision_ending}
-use Rattle.circ_files.specs.Ending.{plain_ending}
-use Rattle.circ_files.specs.declared.ending.Ending.{Ending as TheEnding}
+use Rattle.circ_status.specs.Ending.{plain_ending}
+use Rattle.circ_status.specs.declared.ending.Ending.{Ending as TheEnding}
 
 fitting_entries : (th : Theory) (ws : List Written) (s : ℕ) → FitsWritten th ws s → AllByRecursion (IsEntry th) ws
 fitting_entries th [] s f = tt

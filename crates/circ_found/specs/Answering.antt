@@ -12,9 +12,9 @@ use Rattle.circ_show.specs.GoalsText.{pair_lines, all_goal_lines}
 use Rattle.circ_plain_search.specs.Numbering.{Found, Proved, LongTable, Stuck, Spent, TooBig, TooDeep}
 use Rattle.circ_attempt.specs.RewritingSearch.{RewritingSearch}
 use Rattle.circ_attempt.specs.Search.{Conduct}
-use Rattle.circ_files.specs.Texts.{too_long_text, spent_text, too_big_text, too_deep_text}
-use Rattle.circ_files.specs.declared.status.Status.TheVariants as status
-use Rattle.circ_files.specs.Ending.{stored_as, Ending, ending}
+use Rattle.circ_status.specs.Texts.{too_long_text, spent_text, too_big_text, too_deep_text}
+use Rattle.circ_status.specs.declared.status.Status.TheVariants as status
+use Rattle.circ_status.specs.Ending.{stored_as, Ending, ending}
 
 abbrev pub derives_among : List (ProofStep ℕ) → ℕ
 derives_among [] = 0

@@ -9,10 +9,10 @@ use Rattle.circ_entry.specs.Entries.{Written}
 use Rattle.circ_show.specs.EntryText.{text_of_entry, IsEntry}
 use Rattle.circ_refute.specs.PlainRefutation.{Refuted, Told_apart, Alike, Spent, Past_limit, Decision, PlainRefutation, goals_in}
 use Rattle.circ_refute.specs.Difference.{IsRightDecision}
-use Rattle.circ_files.specs.Texts.{spent_text, too_big_text, too_deep_text}
-use Rattle.circ_files.specs.declared.status.Status.TheVariants as status
+use Rattle.circ_status.specs.Texts.{spent_text, too_big_text, too_deep_text}
+use Rattle.circ_status.specs.declared.status.Status.TheVariants as status
 use Rattle.circ_found.specs.Answering.{side_line}
-use Rattle.circ_files.specs.Ending.{Ending, ending}
+use Rattle.circ_status.specs.Ending.{Ending, ending}
 
 -- an entry of the experiment, as a line
 abbrev pub entry_line : Theory → Written → List ℕ

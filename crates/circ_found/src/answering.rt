@@ -5,19 +5,20 @@ ghost use Rattle.circ_proof.specs.Proof.{Proof as PlainProof, ProofFor};
 ghost use Rattle.circ_plain_search.specs.Numbering.{Proved};
 ghost use Rattle.circ_conditional_search.specs.ConditionalSearch.{CanAllBeSearched};
 ghost use Rattle.circ_search.specs.Plain.{plain_found, conduct_with};
-ghost use Rattle.circ_files.specs.Texts.{too_long_text, spent_text};
-ghost use Rattle.circ_files.specs.Texts.{too_big_text, too_deep_text};
-ghost use Rattle.circ_files.specs.declared.status.Status.TheVariants as status;
-ghost use Rattle.circ_files.specs.Ending.{ending, plain_ending};
+ghost use Rattle.circ_status.specs.Texts.{too_long_text, spent_text};
+ghost use Rattle.circ_status.specs.Texts.{too_big_text, too_deep_text};
+ghost use Rattle.circ_status.specs.declared.status.Status.TheVariants as status;
+ghost use Rattle.circ_status.specs.Ending.{ending, plain_ending};
 ghost use Rattle.circ_found.specs.Answering.{SearchEnds, found_ending, proof_ending};
 
 use crate::texts::{proved_text, stuck_text};
 use circ_attempt::laws::proved_is_accepted;
 use circ_file::encode;
 use circ_file::laws::texts_decode;
-use circ_files::{Ending, MOST_BYTES, STORED_FILE, Status, Stored, push_counted, push_spent};
+use circ_files::MOST_BYTES;
 use circ_proof::Proof;
 use circ_search::{Found, Limits, prove};
+use circ_status::{Ending, STORED_FILE, Status, Stored, push_counted, push_spent};
 use circ_theory::{Goal, Theory};
 use std::alloc::{AllocError, Global};
 

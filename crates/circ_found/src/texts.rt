@@ -9,10 +9,10 @@ ghost use Rattle.circ_found.specs.Answering.{derives_in};
 ghost use Rattle.circ_found.specs.Answering.{side_line, stuck_text};
 
 use crate::counts::{derives_in, steps_in};
-use circ_files::{push_counted, push_numbered};
 use circ_mixfix::{print, print_pair};
 use circ_proof::{Block, Proof};
 use circ_show::goals_text;
+use circ_status::{push_counted, push_numbered};
 use circ_term::Term;
 use circ_theory::{Pair, Theory};
 use std::alloc::{AllocError, Global};

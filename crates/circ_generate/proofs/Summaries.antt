@@ -15,13 +15,13 @@ use Rattle.circ_attempt.specs.Search.{Conduct}
 use Rattle.circ_script.specs.ReadsAsScript.{ReadsAsScript}
 use Rattle.circ_script.specs.Script.{Script}
 use Rattle.circ_script.specs.declared.job.Job.TheVariants.{Prove}
-use Rattle.circ_files.specs.Texts.{too_long_text}
+use Rattle.circ_status.specs.Texts.{too_long_text}
 use Rattle.circ_read.specs.ReadsAs.{ReadsAs}
 use Rattle.circ_files.proofs.FileFaults.{if_ok}
-use Rattle.circ_files.specs.declared.status.Status.TheVariants as status
+use Rattle.circ_status.specs.declared.status.Status.TheVariants as status
 use Rattle.circ_found.specs.Answering.{proved_text, found_ending, SearchEnds}
-use Rattle.circ_files.specs.Ending.{Stored, stored_as, Ending, ending, plain_ending}
-use Rattle.circ_files.specs.declared.ending.Ending.{Ending as TheEnding}
+use Rattle.circ_status.specs.Ending.{Stored, stored_as, Ending, ending, plain_ending}
+use Rattle.circ_status.specs.declared.ending.Ending.{Ending as TheEnding}
 use Rattle.circ_generate.specs.Chain.{chain_theory, chain_script}
 use Rattle.circ_generate.specs.Generating.{greatest_conduct, summary_text, chain_ending, Generates, searched, IsAcceptedText}
 

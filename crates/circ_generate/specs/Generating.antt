@@ -13,11 +13,11 @@ use Rattle.circ_script.specs.declared.job.Job.TheVariants.{Prove}
 use Rattle.circ_plain_search.specs.Numbering.{Found, Proved}
 use Rattle.circ_attempt.specs.RewritingSearch.{RewritingSearch}
 use Rattle.circ_attempt.specs.Search.{Conduct}
-use Rattle.circ_files.specs.Texts.{too_long_text, unreadable_text}
+use Rattle.circ_status.specs.Texts.{too_long_text, unreadable_text}
 use Rattle.circ_read.specs.ReadsAs.{ReadsAs, FirstCause}
-use Rattle.circ_files.specs.declared.status.Status.TheVariants as status
+use Rattle.circ_status.specs.declared.status.Status.TheVariants as status
 use Rattle.circ_found.specs.Answering.{counts_text, derives_in, found_ending}
-use Rattle.circ_files.specs.Ending.{Ending, ending}
+use Rattle.circ_status.specs.Ending.{Ending, ending}
 use Rattle.circ_generate.specs.Chain.{chain_theory, chain_script}
 
 -- the search with the greatest budgets, in which no hidden goal is split and no hypothesis is a rule

@@ -3,7 +3,7 @@ ghost use Rattle.std.specs.Prelude.{◌≡◌, ◌≤◌, ◌+◌, ◌++◌, IfO
 ghost use Rattle.circ_generate.specs.Chain.{each_below, next_in, op_text, eqs_text};
 ghost use Rattle.circ_generate.specs.Chain.{chain_theory, goal_text, chain_script};
 
-use circ_files::{push_counted, push_numbered};
+use circ_status::{push_counted, push_numbered};
 use std::alloc::{AllocError, Global};
 
 /// The theory of a chain of the streams from 0 to n.

@@ -3,7 +3,7 @@ use Rattle.std.proofs.Common.{◌≡◌, ℕ, List, subst}
 use Rattle.std.specs.Str.Lines.{lines as lines_of}
 use Rattle.circ_outer.specs.Shelf.{ShelfState}
 use Rattle.circ_outer.specs.Sink.{SinkState}
-use Rattle.circ_files.specs.declared.status.Status.{Status}
+use Rattle.circ_status.specs.declared.status.Status.{Status}
 use Rattle.circ_page.specs.Page.{RunsPage}
 
 pub run_moved : {v w theory goals proof : List ℕ} {r : Status} {after : ShelfState} {end : SinkState} → v ≡ w

@@ -4,8 +4,8 @@ use Rattle.std.specs.Str.{IsUtf8}
 use Rattle.std.specs.Str.Lines.{lines as lines_of}
 use Rattle.circ_outer.specs.Shelf.{ShelfState}
 use Rattle.circ_outer.specs.Sink.{SinkState}
-use Rattle.circ_files.specs.declared.status.Status.{Status}
-use Rattle.circ_files.specs.Status.{number_of}
+use Rattle.circ_status.specs.declared.status.Status.{Status}
+use Rattle.circ_status.specs.Status.{number_of}
 use Rattle.circ_top.specs.InMemory.{HoldsFiles, Appends}
 use Rattle.circ_top.specs.Promises.{Promises}
 use Rattle.circ_top.specs.Run.{Run}

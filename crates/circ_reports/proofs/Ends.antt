@@ -12,8 +12,8 @@ use Rattle.circ_files.specs.ScriptFile.{TakesScript}
 use Rattle.circ_files.specs.TheoryFile.{TakesTheory}
 use Rattle.circ_reports.specs.Reduce.{Reduced, Results, Spent, Past_limit, EndsWith, Ends, FaultEnds, reduced, limit_status, fault_status}
 use Rattle.circ_reports.specs.Reduce.{RefusesReduce, theory_fault, term_ends}
-use Rattle.circ_files.specs.declared.status.Status.{Status}
-use Rattle.circ_files.specs.declared.status.Status.TheVariants as status
+use Rattle.circ_status.specs.declared.status.Status.{Status}
+use Rattle.circ_status.specs.declared.status.Status.TheVariants as status
 
 -- the answers with which terms can end
 abbrev pub IsEnd : Status → Type 0

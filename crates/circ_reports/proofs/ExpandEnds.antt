@@ -16,8 +16,8 @@ use Rattle.circ_expand.specs.Outcomes.{IsWrittenOut}
 use Rattle.circ_expand.specs.declared.fault.ExpandFault.{ExpandFault}
 use Rattle.circ_expand.specs.declared.fault.ExpandFault.TheVariants as fault
 use Rattle.circ_expand.specs.Goals.{all_goals, goal_misfit, FitGoal}
-use Rattle.circ_files.specs.declared.status.Status.{Status}
-use Rattle.circ_files.specs.declared.status.Status.TheVariants as status
+use Rattle.circ_status.specs.declared.status.Status.{Status}
+use Rattle.circ_status.specs.declared.status.Status.TheVariants as status
 use Rattle.circ_reports.specs.Expand.{Expanded, Written_out, Not_written, by_units, by_misfit, by_goal, number_before, by_number, expanded, fresh_experiment, Writes, EndsAs, WritesNone, fault_answer}
 use Rattle.circ_reports.specs.Expand.{GivesNone, none_written, no_memory}
 

@@ -13,8 +13,8 @@ use Rattle.circ_files.specs.ProofFile.{TakesProof, ProofRefusal, IsProofFault}
 use Rattle.circ_files.specs.Quiet.{IsQuietBut, IsQuietCall}
 use Rattle.circ_files.specs.TheoryFile.{TakesTheory}
 use Rattle.circ_reports.specs.declared.report.Report.{Report}
-use Rattle.circ_files.specs.declared.status.Status.{Status}
-use Rattle.circ_files.specs.declared.status.Status.TheVariants as status
+use Rattle.circ_status.specs.declared.status.Status.{Status}
+use Rattle.circ_status.specs.declared.status.Status.TheVariants as status
 use Rattle.circ_files.proofs.FileFaults.{only_read, taken_before, quiet_fault}
 
 -- the bytes read as one proof at most

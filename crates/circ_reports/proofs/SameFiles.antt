@@ -5,8 +5,8 @@ use Rattle.circ_auto.specs.Machine.{Machine}
 use Rattle.circ_auto.specs.Text.{ReadsAsAutomaton}
 use Rattle.circ_read.specs.declared.cause.Cause.TheVariants as cause
 use Rattle.circ_files.specs.Files.{IsFileFault}
-use Rattle.circ_files.specs.declared.status.Status.{Status}
-use Rattle.circ_files.specs.declared.status.Status.TheVariants as status
+use Rattle.circ_status.specs.declared.status.Status.{Status}
+use Rattle.circ_status.specs.declared.status.Status.TheVariants as status
 use Rattle.circ_files.proofs.FileFaults.{moved}
 use Rattle.circ_reports.specs.Same.{AutomatonRefusal, ReadsOver, SecondRefusal, TakesAs, RefusesSame, first_fault}
 

@@ -1,8 +1,8 @@
 -- Want of memory refuses `upgrade`.
 use Rattle.std.proofs.Common.{◌≡◌, List, ℕ, sym, subst}
 use Rattle.circ_outer.specs.Shelf.{ShelfState}
-use Rattle.circ_files.specs.declared.status.Status.{Status}
-use Rattle.circ_files.specs.declared.status.Status.TheVariants as status
+use Rattle.circ_status.specs.declared.status.Status.{Status}
+use Rattle.circ_status.specs.declared.status.Status.TheVariants as status
 use Rattle.circ_reports.specs.Upgrade.{RefusesUpgrade, theory_fault}
 
 pub memory_refuses : (theory proof : List ℕ) (before after : ShelfState) (s : Status) → s ≡ status.Memory → RefusesUpgrade theory proof before after s

@@ -12,12 +12,12 @@ use Rattle.circ_show.specs.GoalsText.{all_goal_lines, relation_lines}
 use Rattle.circ_files.specs.Files.{Held, RefusesFile}
 use Rattle.circ_files.specs.ProofFile.{ReadsProof, TakesProof, ProofRefusal, IsProofFault}
 use Rattle.circ_files.specs.Refusals.{proof_places, text_of_refusal}
-use Rattle.circ_files.specs.Texts.{refused_text}
+use Rattle.circ_status.specs.Texts.{refused_text}
 use Rattle.circ_files.specs.TheoryFile.{ReadsTheory, TakesTheory, TheoryRefusal, IsTheoryFault}
 use Rattle.circ_reports.specs.declared.report.Report.{Report}
 use Rattle.circ_reports.specs.declared.report.Report.TheVariants.{Goals, Relation}
-use Rattle.circ_files.specs.declared.status.Status.{Status}
-use Rattle.circ_files.specs.declared.status.Status.TheVariants as status
+use Rattle.circ_status.specs.declared.status.Status.{Status}
+use Rattle.circ_status.specs.declared.status.Status.TheVariants as status
 
 -- the text of an accepted proof: the goals of its blocks
 abbrev pub accepted_text : Signature → Proof → List ℕ

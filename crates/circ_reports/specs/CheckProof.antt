@@ -7,8 +7,8 @@ use Rattle.circ_proof.specs.Proof.{Proof}
 use Rattle.circ_reports.specs.Check.{Proves}
 use Rattle.circ_files.specs.ProofFile.{TakesProof, IsProofFault}
 use Rattle.circ_reports.specs.declared.report.Report.{Report}
-use Rattle.circ_files.specs.declared.status.Status.{Status}
-use Rattle.circ_files.specs.declared.status.Status.TheVariants as status
+use Rattle.circ_status.specs.declared.status.Status.{Status}
+use Rattle.circ_status.specs.declared.status.Status.TheVariants as status
 
 -- The named file reads, and its proof is accepted, with this text.
 pub record AcceptsProof (report : Report) (name : List ℕ) (th : Theory) (text : List ℕ) (before : ShelfState) : Type 0 where

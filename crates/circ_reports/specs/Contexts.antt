@@ -9,8 +9,8 @@ use Rattle.circ_show.specs.PlacesText.{place_lines}
 use Rattle.circ_files.specs.Refusals.{statement_places, text_of_refusal}
 use Rattle.circ_files.specs.Files.{Held, RefusesFile}
 use Rattle.circ_files.specs.TheoryFile.{ReadsTheory, TakesTheory, TheoryRefusal}
-use Rattle.circ_files.specs.declared.status.Status.{Status}
-use Rattle.circ_files.specs.declared.status.Status.TheVariants as status
+use Rattle.circ_status.specs.declared.status.Status.{Status}
+use Rattle.circ_status.specs.declared.status.Status.TheVariants as status
 
 -- The lines of the theory's greatest special set, for which each start term has this budget.
 pub record IsContextsText (th : Theory) (budget : ℕ) (text : List ℕ) : Type 0 where

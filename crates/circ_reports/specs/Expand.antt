@@ -25,10 +25,10 @@ use Rattle.circ_expand.specs.Rows.{PlainRow, Equation_row, Content_row, Assumpti
 use Rattle.circ_show.specs.GoalsText.{pair_line}
 use Rattle.circ_files.specs.Files.{Held, RefusesFile}
 use Rattle.circ_files.specs.Refusals.{proof_places, text_of_refusal}
-use Rattle.circ_files.specs.Texts.{refused_text}
+use Rattle.circ_status.specs.Texts.{refused_text}
 use Rattle.circ_files.specs.TheoryFile.{ReadsTheory, TakesTheory, TheoryRefusal, IsTheoryFault}
-use Rattle.circ_files.specs.declared.status.Status.{Status}
-use Rattle.circ_files.specs.declared.status.Status.TheVariants as status
+use Rattle.circ_status.specs.declared.status.Status.{Status}
+use Rattle.circ_status.specs.declared.status.Status.TheVariants as status
 use Rattle.circ_reports.specs.PlainProof.{ReadsPlainProof, TakesPlainProof, PlainProofRefusal, IsPlainProofFault}
 use Rattle.circ_reports.specs.Reduce.{limit_status}
 

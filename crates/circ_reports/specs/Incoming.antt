@@ -15,8 +15,8 @@ use Rattle.circ_reports.specs.Check.{Proves}
 use Rattle.circ_files.specs.ProofFile.{ProofRefusal}
 use Rattle.circ_reports.specs.declared.incoming.Incoming.{Incoming}
 use Rattle.circ_reports.specs.declared.report.Report.{Report}
-use Rattle.circ_files.specs.declared.status.Status.{Status}
-use Rattle.circ_files.specs.declared.status.Status.TheVariants as status
+use Rattle.circ_status.specs.declared.status.Status.{Status}
+use Rattle.circ_status.specs.declared.status.Status.TheVariants as status
 
 -- the goals of each block that begins among the parts
 abbrev pub goals_among : List Part → List (List Goal)

@@ -1,7 +1,7 @@
 -- What `library` does.
 use Rattle.std.specs.Prelude.{◌≡◌, ℕ, List}
-use Rattle.circ_files.specs.declared.status.Status.{Status}
-use Rattle.circ_files.specs.declared.status.Status.TheVariants as status
+use Rattle.circ_status.specs.declared.status.Status.{Status}
+use Rattle.circ_status.specs.declared.status.Status.TheVariants as status
 
 -- The outcome, with its text: the text of the name.
 abbrev pub LibraryOutcome : (given : List ℕ) → Status → (text : List ℕ) → Type 0

@@ -11,7 +11,7 @@ use Rattle.circ_read.specs.declared.cause.Cause.{Cause}
 use Rattle.circ_read.specs.declared.cause.Cause.TheVariants as cause
 use Rattle.circ_files.specs.Files.{Held, Holds, IsFileFault}
 use Rattle.circ_files.specs.ProofFile.{TakesProof, ProofRefusal}
-use Rattle.circ_files.specs.declared.status.Status.{Status}
+use Rattle.circ_status.specs.declared.status.Status.{Status}
 
 -- ---- which lines of conditions a proof has
 

@@ -17,8 +17,8 @@ use Rattle.circ_files.specs.Refusals.{statement_places, text_of_refusal}
 use Rattle.circ_files.specs.Files.{Held, RefusesFile}
 use Rattle.circ_files.specs.ScriptFile.{ReadsScript, TakesScript, ScriptRefusal, IsScriptFault}
 use Rattle.circ_files.specs.TheoryFile.{ReadsTheory, TakesTheory, TheoryRefusal, IsTheoryFault}
-use Rattle.circ_files.specs.declared.status.Status.{Status}
-use Rattle.circ_files.specs.declared.status.Status.TheVariants as status
+use Rattle.circ_status.specs.declared.status.Status.{Status}
+use Rattle.circ_status.specs.declared.status.Status.TheVariants as status
 
 -- What becomes of terms that are reduced with one budget: all have normal forms, and this is left; or the first that has none ends it, since the
 -- budget is spent or a limit passed.

@@ -10,9 +10,9 @@ use Rattle.circ_read.specs.declared.cause.Cause.{Cause}
 use Rattle.circ_read.specs.declared.cause.Cause.TheVariants as cause
 use Rattle.circ_files.specs.Refusals.{statement_places, text_of_refusal}
 use Rattle.circ_files.specs.Files.{Held, IsOnly, AreBytes, Holds, Refusal, RefusesFile, IsFileFault}
-use Rattle.circ_files.specs.Texts.{differ_text}
-use Rattle.circ_files.specs.declared.status.Status.{Status}
-use Rattle.circ_files.specs.declared.status.Status.TheVariants as status
+use Rattle.circ_status.specs.Texts.{differ_text}
+use Rattle.circ_status.specs.declared.status.Status.{Status}
+use Rattle.circ_status.specs.declared.status.Status.TheVariants as status
 
 -- a cause of an automaton's text, as the cause of the same name
 abbrev pub cause_of : AutoCause → Cause

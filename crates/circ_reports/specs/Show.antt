@@ -6,8 +6,8 @@ use Rattle.circ_show.specs.TheoryText.{IsTheoryText}
 use Rattle.circ_files.specs.Refusals.{statement_places, text_of_refusal}
 use Rattle.circ_files.specs.Files.{Held, RefusesFile}
 use Rattle.circ_files.specs.TheoryFile.{ReadsTheory, TakesTheory, TheoryRefusal}
-use Rattle.circ_files.specs.declared.status.Status.{Status}
-use Rattle.circ_files.specs.declared.status.Status.TheVariants as status
+use Rattle.circ_status.specs.declared.status.Status.{Status}
+use Rattle.circ_status.specs.declared.status.Status.TheVariants as status
 
 -- The outcome, with its text: the theory file refuses the command; or it reads, and its text is given.
 pub data ShowOutcome (held : Held) (theory : List ℕ) : Status → (text : List ℕ) → Type 0 where

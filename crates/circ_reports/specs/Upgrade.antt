@@ -11,9 +11,9 @@ use Rattle.circ_show.specs.GoalsText.{all_goal_lines}
 use Rattle.circ_files.specs.Files.{Held, RefusesFile}
 use Rattle.circ_files.specs.ProofFile.{ReadsProof, TakesProof, ProofRefusal, IsProofFault}
 use Rattle.circ_files.specs.TheoryFile.{ReadsTheory, TakesTheory, TheoryRefusal, IsTheoryFault}
-use Rattle.circ_files.specs.declared.status.Status.{Status}
-use Rattle.circ_files.specs.declared.status.Status.TheVariants as status
-use Rattle.circ_files.specs.Ending.{Stored, stored_as}
+use Rattle.circ_status.specs.declared.status.Status.{Status}
+use Rattle.circ_status.specs.declared.status.Status.TheVariants as status
+use Rattle.circ_status.specs.Ending.{Stored, stored_as}
 use Rattle.circ_files.specs.Refusals.{proof_places, text_of_refusal}
 
 -- the proof in version 2, and in all else as it is

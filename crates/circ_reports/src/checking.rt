@@ -8,9 +8,10 @@ ghost use Rattle.circ_files.specs.Quiet.{IsQuietCall};
 
 use crate::incoming::Incoming;
 use crate::report::Report;
-use circ_files::{CHECKED_FILE, Status, take_into, take_theory};
+use circ_files::{take_into, take_theory};
 use circ_outer::Shelf;
 use circ_proof_text::laws::one_answer;
+use circ_status::{CHECKED_FILE, Status};
 use circ_theory::Theory;
 use std::alloc::Global;
 

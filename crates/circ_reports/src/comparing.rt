@@ -7,16 +7,17 @@ ghost use Rattle.circ_auto.specs.Text.{ReadsAsAutomaton};
 ghost use Rattle.circ_auto.specs.Machine.{Compares};
 ghost use Rattle.circ_files.specs.Files.{IsFileFault};
 ghost use Rattle.circ_files.specs.Quiet.{IsQuietCall};
-ghost use Rattle.circ_files.specs.Texts.{differ_text};
-ghost use Rattle.circ_files.specs.Ending.{plain_stored};
+ghost use Rattle.circ_status.specs.Texts.{differ_text};
+ghost use Rattle.circ_status.specs.Ending.{plain_stored};
 ghost use Rattle.circ_reports.specs.Same.{cause_of, AutomatonRefusal, ReadsOver, SecondRefusal, TakesAs};
 ghost use Rattle.circ_reports.specs.Same.{letters_of, IsComparedIn, IsCompared, RefusesSame};
 
 use circ_auto::laws::read_in_one_way;
 use circ_auto::{AutoCause, AutoFault, Automaton, Compared, compare, read_automaton, same_letters};
-use circ_files::{Ending, Status, take_file};
+use circ_files::take_file;
 use circ_outer::Shelf;
 use circ_read::Cause;
+use circ_status::{Ending, Status};
 use std::alloc::{AllocError, Global};
 
 /// The number of the first automaton among the files of a run.

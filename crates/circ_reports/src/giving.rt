@@ -2,7 +2,7 @@
 ghost use Rattle.std.specs.Prelude.{◌≡◌, IfOk, IfErr};
 ghost use Rattle.circ_reports.specs.Library.{RefusesLibrary};
 
-use circ_files::Status;
+use circ_status::Status;
 use std::alloc::Global;
 
 /// A copy of the text, or the answer in its place.

@@ -6,9 +6,10 @@ ghost use Rattle.circ_files.specs.TheoryFile.{IsTheoryFault};
 ghost use Rattle.circ_reports.specs.Contexts.{IsContextsText, IsListed};
 
 use circ_contexts::special_places;
-use circ_files::{Status, take_theory};
+use circ_files::take_theory;
 use circ_outer::Shelf;
 use circ_show::contexts_text;
+use circ_status::Status;
 use circ_theory::Theory;
 use std::alloc::{AllocError, Global};
 

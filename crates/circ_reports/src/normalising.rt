@@ -7,11 +7,12 @@ ghost use Rattle.circ_reports.specs.Reduce.{reduced, Reduces, Ends, Results, Fau
 ghost use Rattle.circ_reports.specs.Reduce.{result_line, results_text, IsReduced, RefusesReduce};
 ghost use Rattle.circ_reports.specs.Reduce.{fault_status};
 
-use circ_files::{Status, push_numbered, take_script, take_theory};
+use circ_files::{take_script, take_theory};
 use circ_mixfix::print;
 use circ_outer::Shelf;
 use circ_rewrite::{RewriteFault, theory_rules};
 use circ_script::Job;
+use circ_status::{Status, push_numbered};
 use circ_term::Term;
 use circ_theory::Theory;
 use circ_tries::Reducer;

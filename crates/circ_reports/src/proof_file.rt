@@ -10,12 +10,13 @@ ghost use Rattle.circ_reports.specs.PlainProof.{TakesPlainProof, IsPlainProofFau
 use crate::incoming::refusal;
 use crate::left_out::left_out;
 use circ_file::decode_with_table;
-use circ_files::{CHECKED_FILE, Status, take_file};
+use circ_files::take_file;
 use circ_form::Text;
 use circ_outer::Shelf;
 use circ_proof::Proof;
 use circ_proof_text::laws::one_answer;
 use circ_read::Cause;
+use circ_status::{CHECKED_FILE, Status};
 use circ_table::Table;
 use circ_theory::Theory;
 use std::alloc::Global;

@@ -4,19 +4,20 @@ ghost use Rattle.circ_outer.specs.Shelf.{ShelfFrame};
 ghost use Rattle.circ_proof.specs.PlainProof.{plain_block, plain_proof};
 ghost use Rattle.circ_proof.specs.Proof.{Proof as PlainProof, ProofFor};
 ghost use Rattle.circ_files.specs.Quiet.{IsQuietCall};
-ghost use Rattle.circ_files.specs.declared.status.Status.TheVariants as status;
+ghost use Rattle.circ_status.specs.declared.status.Status.TheVariants as status;
 ghost use Rattle.circ_show.specs.GoalsText.{all_goal_lines};
-ghost use Rattle.circ_files.specs.Ending.{ending, plain_ending, plain_stored};
+ghost use Rattle.circ_status.specs.Ending.{ending, plain_ending, plain_stored};
 ghost use Rattle.circ_reports.specs.Upgrade.{upgraded_text, upgraded_file, IsUpgraded};
 ghost use Rattle.circ_reports.specs.Upgrade.{RefusesUpgrade};
 
 use crate::proof_file::take_proof;
 use circ_file::encode;
 use circ_file::laws::texts_decode;
-use circ_files::{Ending, Status, Stored, take_theory};
+use circ_files::take_theory;
 use circ_outer::Shelf;
 use circ_proof::{Block, Proof};
 use circ_show::goals_text;
+use circ_status::{Ending, Status, Stored};
 use circ_theory::Theory;
 use std::alloc::{AllocError, Global};
 

@@ -12,8 +12,8 @@ ghost use Rattle.circ_reports.specs.Expand.{rule_line, row_line, links_among, ro
 
 use circ_entry::Entry;
 use circ_expand::Row;
-use circ_files::{push_counted, push_numbered};
 use circ_mixfix::{print, print_pair};
+use circ_status::{push_counted, push_numbered};
 use circ_term::{Path, Term};
 use circ_theory::{Goal, Theory, Way};
 use std::alloc::{AllocError, Global};

@@ -6,9 +6,10 @@ ghost use Rattle.circ_files.specs.Quiet.{IsQuietCall};
 ghost use Rattle.circ_reports.specs.Show.{IsShown};
 ghost use Rattle.circ_files.specs.TheoryFile.{IsTheoryFault};
 
-use circ_files::{Status, take_theory};
+use circ_files::take_theory;
 use circ_outer::Shelf;
 use circ_show::theory_text;
+use circ_status::Status;
 use circ_theory::Theory;
 use std::alloc::{AllocError, Global};
 

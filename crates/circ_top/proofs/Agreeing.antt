@@ -10,13 +10,13 @@ use Rattle.circ_top.specs.Command.{Command, Asks}
 use Rattle.circ_top.specs.Delivery.{Prints, PrintsPart, PrintsFront, Delivers, whole, write_failed, memory_wanted, text_wanted}
 use Rattle.circ_files.specs.Files.{Refusal, RefusesFile, IsFileFault}
 use Rattle.circ_files.specs.Like.{IsLike, itself}
-use Rattle.circ_files.specs.Ending.{Stored}
+use Rattle.circ_status.specs.Ending.{Stored}
 use Rattle.circ_top.specs.Outcome.{OutcomeOf, Outcome, command}
 use Rattle.circ_top.specs.Run.{Run}
 use Rattle.circ_top.specs.Storing.{HoldsAfter, IsUnstored, FailsToStore, Ends, stored_first, not_stored}
 use Rattle.circ_top.specs.Refusals.{refusal_text}
-use Rattle.circ_files.specs.declared.status.Status.{Status}
-use Rattle.circ_files.specs.declared.status.Status.TheVariants as status
+use Rattle.circ_status.specs.declared.status.Status.{Status}
+use Rattle.circ_status.specs.declared.status.Status.TheVariants as status
 use Rattle.circ_files.proofs.FileFaults.{FaultOf, fault_of, refuses, unread, out_of_memory}
 
 -- the answer that is due is an outcome, or there is no text, since a file was not read or memory ran out

@@ -22,18 +22,18 @@ use Rattle.circ_top.specs.Scripted.{to_prove, to_differ}
 use Rattle.circ_top.specs.Prove.{IsSearched, StoresProof}
 use Rattle.circ_top.specs.Delivery.{Prints, Delivers, whole, write_failed, memory_wanted, text_wanted}
 use Rattle.circ_files.specs.Files.{Held, IsUnread, IsTooLong, IsFileFault}
-use Rattle.circ_files.specs.Ending.{Stored, ending}
+use Rattle.circ_status.specs.Ending.{Stored, ending}
 use Rattle.circ_found.specs.Answering.{SearchEnds}
 use Rattle.circ_top.specs.Outcome.{Outcome, command}
 use Rattle.circ_top.specs.Run.{Run}
 use Rattle.circ_top.specs.Storing.{HoldsAfter, IsUnstored, Ends, stored_first, not_stored}
-use Rattle.circ_files.specs.Texts.{refused_text}
+use Rattle.circ_status.specs.Texts.{refused_text}
 use Rattle.circ_top.specs.Refusals.{refusal_text}
 use Rattle.circ_files.specs.TheoryFile.{TheoryRefusal}
 use Rattle.circ_reports.specs.declared.report.Report.{Report}
 use Rattle.circ_turn.specs.declared.search.Limits.{Limits}
-use Rattle.circ_files.specs.declared.status.Status.{Status}
-use Rattle.circ_files.specs.declared.status.Status.TheVariants as status
+use Rattle.circ_status.specs.declared.status.Status.{Status}
+use Rattle.circ_status.specs.declared.status.Status.TheVariants as status
 use Rattle.circ_top.proofs.CheckOutcomes.{check_not_ok, check_refused, unread_check, past_check, unwritten_check}
 use Rattle.circ_files.proofs.FileFaults.{file_fault_not_ok, file_fault_not_refused}
 use Rattle.circ_top.proofs.Outcomes.{due_is}

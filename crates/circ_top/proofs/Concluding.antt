@@ -4,10 +4,10 @@ use Rattle.circ_outer.specs.Count.{Rose}
 use Rattle.circ_outer.specs.Shelf.{ShelfState, ShelfFrame, Struck, IsQuiet}
 use Rattle.circ_outer.specs.Sink.{SinkState}
 use Rattle.circ_files.specs.Quiet.{IsQuietBut}
-use Rattle.circ_files.specs.declared.status.Status.{Status}
-use Rattle.circ_files.specs.declared.status.Status.TheVariants as status
+use Rattle.circ_status.specs.declared.status.Status.{Status}
+use Rattle.circ_status.specs.declared.status.Status.TheVariants as status
 use Rattle.circ_files.proofs.FileFaults.{quiet_after}
-use Rattle.circ_files.specs.Ending.{Stored}
+use Rattle.circ_status.specs.Ending.{Stored}
 use Rattle.circ_top.specs.Answer.{DueAnswer}
 use Rattle.circ_top.specs.Causes.{IsQuietRun}
 use Rattle.circ_top.specs.Run.{run_of}

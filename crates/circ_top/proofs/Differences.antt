@@ -9,10 +9,10 @@ use Rattle.circ_theory.specs.Goal.{Goal}
 use Rattle.circ_entry.specs.Entries.{Written}
 use Rattle.circ_refute.specs.PlainRefutation.{Refuted, Told_apart, Alike, Spent, Past_limit, Decision, goals_in}
 use Rattle.circ_refute.specs.Difference.{DiffersBy, IsRightOf}
-use Rattle.circ_files.specs.declared.status.Status.{Status}
-use Rattle.circ_files.specs.declared.status.Status.TheVariants as status
+use Rattle.circ_status.specs.declared.status.Status.{Status}
+use Rattle.circ_status.specs.declared.status.Status.TheVariants as status
 use Rattle.circ_found.specs.Differing.{differs_text, limit_ending, refuted_ending, decision_ending, DifferEnds}
-use Rattle.circ_files.specs.Ending.{Stored, Ending, ending}
+use Rattle.circ_status.specs.Ending.{Stored, Ending, ending}
 use Rattle.circ_top.specs.Differ.{DifferenceSought, IsDifferenceSought}
 use Rattle.circ_top.specs.Scripted.{to_differ, IsDoneOn}
 use Rattle.circ_top.proofs.ScriptOutcomes.{EndsOnce}

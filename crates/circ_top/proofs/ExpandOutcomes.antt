@@ -12,10 +12,10 @@ use Rattle.circ_read.specs.declared.cause.Cause.TheVariants as cause
 use Rattle.circ_files.specs.Files.{IsOnly, RefusesFile, IsUnread, IsTooLong, IsFileFault}
 use Rattle.circ_files.specs.Like.{IsLike, IsLikeCause, same_cause, itself}
 use Rattle.circ_files.specs.ProofFile.{ProofRefusal}
-use Rattle.circ_files.specs.Texts.{refused_text}
+use Rattle.circ_status.specs.Texts.{refused_text}
 use Rattle.circ_files.specs.TheoryFile.{ReadsTheory, TheoryRefusal, TakesTheory}
-use Rattle.circ_files.specs.declared.status.Status.{Status}
-use Rattle.circ_files.specs.declared.status.Status.TheVariants as status
+use Rattle.circ_status.specs.declared.status.Status.{Status}
+use Rattle.circ_status.specs.declared.status.Status.TheVariants as status
 use Rattle.circ_files.proofs.FileFaults.{FaultOf, IsOneWay, fault_of, refuses, unread, out_of_memory, reads_not_refused, refused_held, holds_held}
 use Rattle.circ_files.proofs.FileFaults.{unread_rose, file_fault_not_ok, file_fault_not_refused}
 use Rattle.circ_files.proofs.Readings.{ReadsOnce}

@@ -13,11 +13,11 @@ use Rattle.circ_script.specs.declared.job.Job.TheVariants as job
 use Rattle.circ_plain_search.specs.Numbering.{Found, Proved, LongTable, Stuck, Spent, TooBig, TooDeep}
 use Rattle.circ_attempt.specs.RewritingSearch.{RewritingSearch}
 use Rattle.circ_files.specs.Like.{IsLikeCause, IsLike, itself}
-use Rattle.circ_files.specs.Texts.{too_long_text}
-use Rattle.circ_files.specs.declared.status.Status.TheVariants as status
+use Rattle.circ_status.specs.Texts.{too_long_text}
+use Rattle.circ_status.specs.declared.status.Status.TheVariants as status
 use Rattle.circ_files.proofs.Readings.{ReadsOnce}
 use Rattle.circ_files.proofs.Scripts.{ScriptsOnce}
-use Rattle.circ_files.specs.Ending.{Ending, ending}
+use Rattle.circ_status.specs.Ending.{Ending, ending}
 use Rattle.circ_generate.specs.Chain.{chain_theory, chain_script}
 use Rattle.circ_generate.specs.Generating.{greatest_conduct, summary_text, chain_ending, unread_ending, Generates, no_theory, no_script, searched}
 use Rattle.circ_top.specs.Command.{Generate}

@@ -20,7 +20,7 @@ use Rattle.circ_top.specs.InMemory.{HoldsFilesOf, HoldsFiles}
 use Rattle.circ_plain_search.specs.Numbering.{Found}
 use Rattle.circ_attempt.specs.RewritingSearch.{RewritingSearch}
 use Rattle.circ_attempt.specs.Search.{Conduct}
-use Rattle.circ_files.specs.Ending.{Stored, Ending}
+use Rattle.circ_status.specs.Ending.{Stored, Ending}
 use Rattle.circ_found.specs.Answering.{found_ending}
 use Rattle.circ_top.specs.Outcome.{Outcome, usage, command}
 use Rattle.circ_files.specs.ProofFile.{ProofRefusal}
@@ -53,14 +53,14 @@ use Rattle.circ_generate.specs.Generating.{Generates, greatest_conduct, chain_en
 use Rattle.circ_generate.specs.Generating as generating
 use Rattle.circ_files.specs.ScriptFile.{ScriptRefusal}
 use Rattle.circ_reports.specs.Show.{not_shown, shown}
-use Rattle.circ_files.specs.Texts.{refused_text}
+use Rattle.circ_status.specs.Texts.{refused_text}
 use Rattle.circ_top.specs.Refusals.{usage_text, refusal_text}
 use Rattle.circ_files.specs.TheoryFile.{TheoryRefusal}
 use Rattle.circ_files.specs.declared.files.TheConstants.{MOST_BYTES}
 use Rattle.circ_reports.specs.declared.report.Report.{Report}
 use Rattle.circ_turn.specs.declared.search.Limits.{Limits}
-use Rattle.circ_files.specs.declared.status.Status.{Status}
-use Rattle.circ_files.specs.declared.status.Status.TheVariants as status
+use Rattle.circ_status.specs.declared.status.Status.{Status}
+use Rattle.circ_status.specs.declared.status.Status.TheVariants as status
 use Rattle.circ_reports.proofs.Ends.{forms_or_end}
 use Rattle.circ_top.proofs.RegexOutcomes.{short_or_long, word_decides}
 use Rattle.circ_top.proofs.TheoryTexts.{has_text}

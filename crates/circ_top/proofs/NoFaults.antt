@@ -7,12 +7,12 @@ use Rattle.circ_top.specs.Causes.{IsOutcomeOrFault, AnswersOutcome, printed, not
 use Rattle.circ_top.specs.Command.{Command, Check, Prove, Show, Contexts, Reduce, Same, Differ, Trace, Regex, Upgrade, Expand, Library, Generate}
 use Rattle.circ_files.specs.Files.{IsUnread}
 use Rattle.circ_top.specs.InMemory.{HoldsFilesOf, HoldsFiles, AppendsAnswer, Appends}
-use Rattle.circ_files.specs.Ending.{Stored}
+use Rattle.circ_status.specs.Ending.{Stored}
 use Rattle.circ_top.specs.Outcome.{Outcome}
 use Rattle.circ_top.specs.Promises.{Promises}
 use Rattle.circ_top.specs.Run.{Run}
-use Rattle.circ_files.specs.declared.status.Status.{Status}
-use Rattle.circ_files.specs.declared.status.Status.TheVariants as status
+use Rattle.circ_status.specs.declared.status.Status.{Status}
+use Rattle.circ_status.specs.declared.status.Status.TheVariants as status
 use Rattle.circ_files.proofs.FileFaults.{unread_rose}
 
 pub never_rose : Rose 0 0 → ⊥

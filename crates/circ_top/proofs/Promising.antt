@@ -1,7 +1,7 @@
 -- That a run keeps what is promised: from the answer that is due, and from the laws of the crates below.
 use Rattle.std.proofs.Common.{◌≡◌, ◌≤◌}
 use Rattle.circ_outer.specs.Sink.{SinkFrame}
-use Rattle.circ_files.specs.declared.status.Status.{Status}
+use Rattle.circ_status.specs.declared.status.Status.{Status}
 use Rattle.circ_top.specs.Answer.{AnswersDue}
 use Rattle.circ_top.specs.Causes.{IsQuietRun}
 use Rattle.circ_top.specs.Promises.{Promises}

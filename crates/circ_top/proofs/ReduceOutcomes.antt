@@ -17,8 +17,8 @@ use Rattle.circ_files.specs.ScriptFile.{ReadsScript, TakesScript, ScriptRefusal}
 use Rattle.circ_top.specs.Refusals.{refusal_text}
 use Rattle.circ_read.specs.ReadsAs.{ReadsAs}
 use Rattle.circ_files.specs.TheoryFile.{ReadsTheory, TakesTheory, TheoryRefusal}
-use Rattle.circ_files.specs.declared.status.Status.{Status}
-use Rattle.circ_files.specs.declared.status.Status.TheVariants as status
+use Rattle.circ_status.specs.declared.status.Status.{Status}
+use Rattle.circ_status.specs.declared.status.Status.TheVariants as status
 use Rattle.circ_files.proofs.Readings.{ReadsOnce}
 use Rattle.circ_top.proofs.Agreeing.{DueIs, outcome, file_due, Agrees, alike, unread_file, memory}
 use Rattle.circ_reports.proofs.Ends.{no_end, one_end, no_early_end}

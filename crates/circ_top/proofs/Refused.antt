@@ -4,9 +4,9 @@ use Rattle.std.proofs.lemmas.Option.{same_Some}
 use Rattle.circ_read.specs.declared.cause.Cause.{Cause}
 use Rattle.circ_files.specs.Files.{Held, Refusal, RefusesFile}
 use Rattle.circ_files.specs.Like.{IsLikeCause, IsLike, another_count, like_cause}
-use Rattle.circ_files.specs.Texts.{too_long_text}
-use Rattle.circ_files.specs.declared.status.Status.{Status}
-use Rattle.circ_files.specs.declared.status.Status.TheVariants as status
+use Rattle.circ_status.specs.Texts.{too_long_text}
+use Rattle.circ_status.specs.declared.status.Status.{Status}
+use Rattle.circ_status.specs.declared.status.Status.TheVariants as status
 use Rattle.circ_files.proofs.FileFaults.{long_file, IsOneWay}
 use Rattle.circ_top.specs.Command.{Command}
 use Rattle.circ_top.specs.Refusals.{place_text, refusal_text}

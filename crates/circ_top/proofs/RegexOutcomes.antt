@@ -15,9 +15,9 @@ use Rattle.circ_proof.specs.Accepted.{Accepted}
 use Rattle.circ_proof.specs.Proof.{Block, Proof, ProofFor}
 use Rattle.circ_read.specs.declared.cause.Cause.TheVariants as cause
 use Rattle.circ_files.specs.Like.{IsLike, itself}
-use Rattle.circ_files.specs.declared.status.Status.{Status}
-use Rattle.circ_files.specs.declared.status.Status.TheVariants as status
-use Rattle.circ_files.specs.Ending.{Stored, ending}
+use Rattle.circ_status.specs.declared.status.Status.{Status}
+use Rattle.circ_status.specs.declared.status.Status.TheVariants as status
+use Rattle.circ_status.specs.Ending.{Stored, ending}
 use Rattle.circ_found.specs.Answering.{SearchEnds}
 use Rattle.circ_search.specs.Plain.{conduct_with}
 use Rattle.circ_turn.specs.declared.search.Limits.{Limits}

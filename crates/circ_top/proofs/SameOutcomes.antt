@@ -8,8 +8,8 @@ use Rattle.circ_auto.specs.Text.{ReadsAsAutomaton, FirstAutoCause}
 use Rattle.circ_read.specs.declared.cause.Cause.{Cause}
 use Rattle.circ_files.specs.Files.{Held, Holds, IsOnly, RefusesFile, IsUnread, IsTooLong, IsFileFault}
 use Rattle.circ_files.specs.Like.{IsLikeCause, same_cause, IsLike, itself, another_word}
-use Rattle.circ_files.specs.declared.status.Status.{Status}
-use Rattle.circ_files.specs.declared.status.Status.TheVariants as status
+use Rattle.circ_status.specs.declared.status.Status.{Status}
+use Rattle.circ_status.specs.declared.status.Status.TheVariants as status
 use Rattle.circ_files.proofs.FileFaults.{FaultOf, fault_of, refuses, unread, out_of_memory, reads_not_refused, refused_held, holds_held}
 use Rattle.circ_files.proofs.FileFaults.{IsOneWay, unread_rose, file_fault_not_ok, file_fault_not_refused}
 use Rattle.circ_top.specs.Command.{Same, Asks}

@@ -9,13 +9,13 @@ use Rattle.circ_files.specs.Files.{IsOnly, RefusesFile, IsUnread, IsTooLong, IsF
 use Rattle.circ_files.specs.ScriptFile.{ReadsScript, ScriptRefusal}
 use Rattle.circ_files.specs.Like.{IsLike, itself}
 use Rattle.circ_read.specs.declared.cause.Cause.{Cause}
-use Rattle.circ_files.specs.declared.status.Status.{Status}
-use Rattle.circ_files.specs.declared.status.Status.TheVariants as status
+use Rattle.circ_status.specs.declared.status.Status.{Status}
+use Rattle.circ_status.specs.declared.status.Status.TheVariants as status
 use Rattle.circ_files.proofs.FileFaults.{FaultOf, fault_of, refuses, unread, out_of_memory, reads_not_refused, refused_held, holds_held, IsOneWay}
 use Rattle.circ_files.proofs.FileFaults.{unread_rose, file_fault_not_ok, file_fault_not_refused}
 use Rattle.circ_files.proofs.Readings.{ReadsOnce}
 use Rattle.circ_files.proofs.Scripts.{ScriptsOnce}
-use Rattle.circ_files.specs.Ending.{Stored, Ending, ending}
+use Rattle.circ_status.specs.Ending.{Stored, Ending, ending}
 use Rattle.circ_top.specs.Causes.{AtEither}
 use Rattle.circ_top.specs.Command.{Command, Asks}
 use Rattle.circ_top.specs.Outcome.{OutcomeOf}

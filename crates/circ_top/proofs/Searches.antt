@@ -9,10 +9,10 @@ use Rattle.circ_proof_text.specs.ProofText.{proof_text}
 use Rattle.circ_plain_search.specs.Numbering.{Found, Proved, LongTable, Stuck, Spent, TooBig, TooDeep}
 use Rattle.circ_attempt.specs.RewritingSearch.{RewritingSearch}
 use Rattle.circ_attempt.specs.Search.{Conduct}
-use Rattle.circ_files.specs.Texts.{too_long_text}
-use Rattle.circ_files.specs.declared.status.Status.{Status}
-use Rattle.circ_files.specs.declared.status.Status.TheVariants as status
-use Rattle.circ_files.specs.Ending.{Stored, stored_as, Ending, ending}
+use Rattle.circ_status.specs.Texts.{too_long_text}
+use Rattle.circ_status.specs.declared.status.Status.{Status}
+use Rattle.circ_status.specs.declared.status.Status.TheVariants as status
+use Rattle.circ_status.specs.Ending.{Stored, stored_as, Ending, ending}
 use Rattle.circ_found.specs.Answering.{proved_text, found_ending, SearchEnds}
 
 -- the answers with which a search, a chain or a comparison can end

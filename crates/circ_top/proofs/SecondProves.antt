@@ -10,9 +10,9 @@ use Rattle.circ_files.specs.Files.{Held, Holds, HoldsMore, Refusal, RefusesFile}
 use Rattle.circ_files.specs.ScriptFile.{ScriptRefusal}
 use Rattle.circ_files.specs.TheoryFile.{TheoryRefusal}
 use Rattle.circ_read.specs.ReadsAs.{ReadsAs}
-use Rattle.circ_files.specs.declared.status.Status.{Status}
-use Rattle.circ_files.specs.declared.status.Status.TheVariants as status
-use Rattle.circ_files.specs.Ending.{Stored}
+use Rattle.circ_status.specs.declared.status.Status.{Status}
+use Rattle.circ_status.specs.declared.status.Status.TheVariants as status
+use Rattle.circ_status.specs.Ending.{Stored}
 use Rattle.circ_turn.specs.declared.search.Limits.{Limits}
 use Rattle.circ_top.specs.Causes.{IsNotPut}
 use Rattle.circ_top.specs.Command.{Command, Prove, Asks, IsNotStored, stored_name}

@@ -10,8 +10,8 @@ use Rattle.circ_files.specs.Like.{IsLike, itself}
 use Rattle.circ_reports.specs.Show.{ShowOutcome, not_shown, shown, IsShown}
 use Rattle.circ_top.specs.Refusals.{refusal_text}
 use Rattle.circ_files.specs.TheoryFile.{ReadsTheory, TheoryRefusal, IsTheoryFault}
-use Rattle.circ_files.specs.declared.status.Status.{Status}
-use Rattle.circ_files.specs.declared.status.Status.TheVariants as status
+use Rattle.circ_status.specs.declared.status.Status.{Status}
+use Rattle.circ_status.specs.declared.status.Status.TheVariants as status
 use Rattle.circ_files.proofs.Readings.{ReadsOnce}
 use Rattle.circ_top.proofs.Agreeing.{DueIs, file_due, Agrees, alike, unread_file, memory, PrintsOnce}
 use Rattle.circ_files.proofs.FileFaults.{FaultOf, fault_of, refuses, unread, out_of_memory, reads_not_refused, refused_held, holds_held}

@@ -3,7 +3,7 @@ use Rattle.std.proofs.Common.{◌≡◌, List, [], sym, ap, subst, None}
 use Rattle.circ_theory.specs.Theory.{Theory}
 use Rattle.circ_theory.specs.Goal.{Goal}
 use Rattle.circ_attempt.specs.Search.{Conduct}
-use Rattle.circ_files.specs.Ending.{Ending}
+use Rattle.circ_status.specs.Ending.{Ending}
 use Rattle.circ_trace.specs.Tracing.{TraceEnds}
 use Rattle.circ_trace.proofs.Traces.{trace_found}
 use Rattle.circ_trace.proofs.Traces as traces

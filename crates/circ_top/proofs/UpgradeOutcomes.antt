@@ -10,12 +10,12 @@ use Rattle.circ_files.specs.Files.{AreBytes, IsOnly, RefusesFile, IsUnread, IsTo
 use Rattle.circ_files.specs.Like.{IsLike, itself}
 use Rattle.circ_files.specs.ProofFile.{ReadsProof, ProofRefusal}
 use Rattle.circ_files.specs.TheoryFile.{ReadsTheory, TheoryRefusal, TakesTheory}
-use Rattle.circ_files.specs.declared.status.Status.{Status}
-use Rattle.circ_files.specs.declared.status.Status.TheVariants as status
+use Rattle.circ_status.specs.declared.status.Status.{Status}
+use Rattle.circ_status.specs.declared.status.Status.TheVariants as status
 use Rattle.circ_files.proofs.FileFaults.{FaultOf, fault_of, refuses, unread, out_of_memory, reads_not_refused, refused_held, holds_held}
 use Rattle.circ_files.proofs.FileFaults.{unread_rose, file_fault_not_ok, file_fault_not_refused}
 use Rattle.circ_files.proofs.Readings.{ReadsOnce}
-use Rattle.circ_files.specs.Ending.{Stored}
+use Rattle.circ_status.specs.Ending.{Stored}
 use Rattle.circ_top.specs.Causes.{AtEither}
 use Rattle.circ_top.specs.Command.{Upgrade, Asks}
 use Rattle.circ_top.specs.Refusals.{refusal_text}

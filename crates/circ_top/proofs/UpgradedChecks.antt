@@ -10,13 +10,13 @@ use Rattle.circ_proof_text.specs.ProofText.{ReadsAsProof, proof_text}
 use Rattle.circ_read.specs.ReadsAs.{ReadsAs}
 use Rattle.circ_files.specs.Files.{Held, Holds, RefusesFile}
 use Rattle.circ_files.specs.ProofFile.{ReadsProof, ProofRefusal}
-use Rattle.circ_files.specs.Texts.{refused_text}
+use Rattle.circ_status.specs.Texts.{refused_text}
 use Rattle.circ_files.specs.TheoryFile.{ReadsTheory, TheoryRefusal}
-use Rattle.circ_files.specs.declared.status.Status.{Status}
-use Rattle.circ_files.specs.declared.status.Status.TheVariants as status
+use Rattle.circ_status.specs.declared.status.Status.{Status}
+use Rattle.circ_status.specs.declared.status.Status.TheVariants as status
 use Rattle.circ_files.proofs.FileFaults.{reads_not_refused}
 use Rattle.circ_files.proofs.Readings.{ReadsOnce}
-use Rattle.circ_files.specs.Ending.{Stored}
+use Rattle.circ_status.specs.Ending.{Stored}
 use Rattle.circ_reports.specs.Check.{report_text, CheckOutcome, no_theory, no_proof, refused, accepted}
 use Rattle.circ_top.specs.Command.{Command, Check, Asks}
 use Rattle.circ_top.specs.Outcome.{OutcomeOf, Outcome, usage, command}

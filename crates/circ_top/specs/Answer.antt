@@ -7,7 +7,7 @@ use Rattle.circ_reports.specs.Check.{IsAccepted, RefusesCheck}
 use Rattle.circ_top.specs.Command.{Command, Check, Prove, Show, Contexts, Reduce, Same, Differ, Trace, Regex, Upgrade, Expand, Library, Generate, Asks, IsNoCommand}
 use Rattle.circ_top.specs.Delivery.{Prints}
 use Rattle.circ_top.specs.Differ.{IsDifferenceSought}
-use Rattle.circ_files.specs.Ending.{ending}
+use Rattle.circ_status.specs.Ending.{ending}
 use Rattle.circ_reports.specs.Expand.{IsExpanded, RefusesExpand}
 use Rattle.circ_reports.specs.Library.{RefusesLibrary}
 use Rattle.circ_top.specs.Prove.{IsSearched}
@@ -19,12 +19,12 @@ use Rattle.circ_top.specs.Regex.{IsEqualitySearched, RefusesRegex}
 use Rattle.circ_reports.specs.Same.{IsCompared, RefusesSame}
 use Rattle.circ_reports.specs.Show.{IsShown}
 use Rattle.circ_reports.specs.Upgrade.{IsUpgraded, RefusesUpgrade}
-use Rattle.circ_files.specs.Ending.{Stored}
+use Rattle.circ_status.specs.Ending.{Stored}
 use Rattle.circ_top.specs.Storing.{HoldsAfter, Ends}
 use Rattle.circ_top.specs.Refusals.{usage_text, refusal_text}
 use Rattle.circ_files.specs.TheoryFile.{IsTheoryFault}
-use Rattle.circ_files.specs.declared.status.Status.{Status}
-use Rattle.circ_files.specs.declared.status.Status.TheVariants as status
+use Rattle.circ_status.specs.declared.status.Status.{Status}
+use Rattle.circ_status.specs.declared.status.Status.TheVariants as status
 
 -- a command whose work ends with 0, its text, and what is stored
 abbrev pub Succeeds : Command → (text : List ℕ) → (stored : Option Stored) → (before : ShelfState) → Type 0

@@ -8,7 +8,7 @@ use Rattle.circ_top.specs.Command.{Command, Check, Prove, Show, Contexts, Reduce
 use Rattle.circ_top.specs.Delivery.{Prints, PrintsPart, PrintsFront}
 use Rattle.circ_files.specs.Files.{IsUnread, IsTooLong}
 use Rattle.circ_files.specs.Like.{IsLike}
-use Rattle.circ_files.specs.Ending.{ending}
+use Rattle.circ_status.specs.Ending.{ending}
 use Rattle.circ_generate.specs.Generating.{Generates}
 use Rattle.circ_top.specs.Outcome.{Outcome}
 use Rattle.circ_top.specs.Prove.{IsSearched}
@@ -16,12 +16,12 @@ use Rattle.circ_top.specs.Regex.{IsEqualitySearched}
 use Rattle.circ_top.specs.Run.{Run}
 use Rattle.circ_top.specs.Trace.{IsTraced}
 use Rattle.circ_reports.specs.Same.{AtAutomaton}
-use Rattle.circ_files.specs.Ending.{Stored}
+use Rattle.circ_status.specs.Ending.{Stored}
 use Rattle.circ_top.specs.Storing.{HoldsAfter}
 use Rattle.circ_files.specs.TheoryFile.{TakesTheory}
 use Rattle.circ_top.specs.Scripted.{to_prove, to_differ, TakesFor}
-use Rattle.circ_files.specs.declared.status.Status.{Status}
-use Rattle.circ_files.specs.declared.status.Status.TheVariants as status
+use Rattle.circ_status.specs.declared.status.Status.{Status}
+use Rattle.circ_status.specs.declared.status.Status.TheVariants as status
 
 -- An outcome of this status: its text was printed, and afterwards the files hold what it stores.
 pub record PrintsOutcome (run : Run) (s : Status) : Type 0 where

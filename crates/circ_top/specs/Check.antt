@@ -5,7 +5,7 @@ use Rattle.circ_theory.specs.Theory.{Theory}
 use Rattle.circ_proof.specs.Proof.{Proof}
 use Rattle.circ_files.specs.Files.{Held}
 use Rattle.circ_files.specs.ProofFile.{ReadsProof}
-use Rattle.circ_files.specs.Texts.{refused_text}
+use Rattle.circ_status.specs.Texts.{refused_text}
 use Rattle.circ_files.specs.TheoryFile.{ReadsTheory}
 use Rattle.circ_reports.specs.Check.{IsAccepted, StepFails}
 use Rattle.circ_reports.specs.declared.report.Report.{Report}

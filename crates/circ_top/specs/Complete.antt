@@ -2,8 +2,8 @@
 use Rattle.std.specs.Prelude.{ℕ, List, Option}
 use Rattle.circ_files.specs.Files.{Held}
 use Rattle.circ_top.specs.Outcome.{Outcome}
-use Rattle.circ_files.specs.Ending.{Stored}
-use Rattle.circ_files.specs.declared.status.Status.{Status}
+use Rattle.circ_status.specs.Ending.{Stored}
+use Rattle.circ_status.specs.declared.status.Status.{Status}
 
 -- The words and what the named files hold have an outcome.
 abbrev pub HasOutcome : (words : List (List ℕ)) → Held → Type 0

@@ -2,8 +2,8 @@
 use Rattle.std.specs.Prelude.{◌≡◌, ◌≢◌, ℕ, List, [], ◌++◌, true}
 use Rattle.circ_outer.specs.Count.{Rose}
 use Rattle.circ_outer.specs.Sink.{SinkState}
-use Rattle.circ_files.specs.declared.status.Status.{Status}
-use Rattle.circ_files.specs.declared.status.Status.TheVariants as status
+use Rattle.circ_status.specs.declared.status.Status.{Status}
+use Rattle.circ_status.specs.declared.status.Status.TheVariants as status
 
 -- the sink got exactly this text, without a fault
 pub record Prints (text : List ℕ) (start end : SinkState) : Type 0 where

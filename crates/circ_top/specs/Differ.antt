@@ -13,10 +13,10 @@ use Rattle.circ_refute.specs.Difference.{DiffersBy}
 use Rattle.circ_files.specs.Files.{Held}
 use Rattle.circ_files.specs.ScriptFile.{TakesScript}
 use Rattle.circ_files.specs.TheoryFile.{TakesTheory}
-use Rattle.circ_files.specs.declared.status.Status.{Status}
+use Rattle.circ_status.specs.declared.status.Status.{Status}
 use Rattle.circ_found.specs.Differing.{differs_text, decision_ending, DifferEnds}
 use Rattle.circ_found.specs.Searchable.{ArePlainlySearchable}
-use Rattle.circ_files.specs.Ending.{Stored, Ending}
+use Rattle.circ_status.specs.Ending.{Stored, Ending}
 use Rattle.circ_top.specs.Command.{Differ}
 use Rattle.circ_top.specs.Delivery.{Prints}
 use Rattle.circ_top.specs.Run.{Run}

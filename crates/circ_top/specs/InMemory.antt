@@ -5,10 +5,10 @@ use Rattle.circ_files.specs.Files.{Held}
 use Rattle.circ_files.specs.Like.{IsLike}
 use Rattle.circ_top.specs.Outcome.{Outcome}
 use Rattle.circ_top.specs.Run.{Run}
-use Rattle.circ_files.specs.Ending.{Stored}
+use Rattle.circ_status.specs.Ending.{Stored}
 use Rattle.circ_top.specs.Storing.{HoldsAfter}
-use Rattle.circ_files.specs.declared.status.Status.{Status}
-use Rattle.circ_files.specs.declared.status.Status.TheVariants as status
+use Rattle.circ_status.specs.declared.status.Status.{Status}
+use Rattle.circ_status.specs.declared.status.Status.TheVariants as status
 
 -- the files of a command hold something
 abbrev pub HoldsFilesOf : Held → Command → Type 0

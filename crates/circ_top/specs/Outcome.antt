@@ -1,6 +1,6 @@
 -- What a run of the program comes to, from its words and what the named files hold (`Outcome`).
 use Rattle.std.specs.Prelude.{◌≡◌, ℕ, List, Option, None}
-use Rattle.circ_files.specs.Ending.{ending}
+use Rattle.circ_status.specs.Ending.{ending}
 use Rattle.circ_generate.specs.Generating.{Generates}
 use Rattle.circ_reports.specs.Contexts.{ContextsOutcome}
 use Rattle.circ_reports.specs.Check.{CheckOutcome}
@@ -16,10 +16,10 @@ use Rattle.circ_reports.specs.Same.{SameOutcome}
 use Rattle.circ_reports.specs.Show.{ShowOutcome}
 use Rattle.circ_top.specs.Trace.{TraceOutcome}
 use Rattle.circ_reports.specs.Upgrade.{UpgradeOutcome}
-use Rattle.circ_files.specs.Ending.{Stored}
+use Rattle.circ_status.specs.Ending.{Stored}
 use Rattle.circ_top.specs.Refusals.{usage_text}
-use Rattle.circ_files.specs.declared.status.Status.{Status}
-use Rattle.circ_files.specs.declared.status.Status.TheVariants as status
+use Rattle.circ_status.specs.declared.status.Status.{Status}
+use Rattle.circ_status.specs.declared.status.Status.TheVariants as status
 
 -- the outcome of a command: a status, a text, and what is stored
 abbrev pub OutcomeOf : Held → Command → Status → (text : List ℕ) → (stored : Option Stored) → Type 0

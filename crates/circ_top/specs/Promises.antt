@@ -7,10 +7,10 @@ use Rattle.circ_proof.specs.Proof.{Proof}
 use Rattle.circ_proof.specs.Accepted.{Derives, FirstFail}
 use Rattle.circ_reports.specs.Check.{report_text}
 use Rattle.circ_reports.specs.declared.report.Report.{Report}
-use Rattle.circ_files.specs.Ending.{Stored}
-use Rattle.circ_files.specs.Texts.{refused_text}
-use Rattle.circ_files.specs.declared.status.Status.{Status}
-use Rattle.circ_files.specs.declared.status.Status.TheVariants as status
+use Rattle.circ_status.specs.Ending.{Stored}
+use Rattle.circ_status.specs.Texts.{refused_text}
+use Rattle.circ_status.specs.declared.status.Status.{Status}
+use Rattle.circ_status.specs.declared.status.Status.TheVariants as status
 use Rattle.circ_top.specs.Answer.{AnswersDue, Succeeded}
 use Rattle.circ_top.specs.Causes.{IsOutcomeOrFault, AnswersOutcome, PrintsPartOf, IsPastLimit, IsReadFault, IsWriteFault, IsQuietRun}
 use Rattle.circ_top.specs.Check.{Accepts, Rejects, FilesRead}

@@ -10,8 +10,8 @@ use Rattle.circ_script.specs.declared.job.Job.TheVariants as job
 use Rattle.circ_files.specs.Files.{Held}
 use Rattle.circ_files.specs.ScriptFile.{TakesScript}
 use Rattle.circ_files.specs.TheoryFile.{TakesTheory}
-use Rattle.circ_files.specs.declared.status.Status.{Status}
-use Rattle.circ_files.specs.Ending.{Stored, Ending}
+use Rattle.circ_status.specs.declared.status.Status.{Status}
+use Rattle.circ_status.specs.Ending.{Stored, Ending}
 use Rattle.circ_found.specs.Answering.{proved_text, SearchEnds}
 use Rattle.circ_top.specs.Command.{Prove}
 use Rattle.circ_search.specs.Plain.{conduct_with}

@@ -1,7 +1,7 @@
 -- The texts of refusals.
 use Rattle.std.specs.Prelude.{ℕ, List, codes}
 use Rattle.circ_files.specs.Refusals.{statement_places, proof_places, text_of_refusal}
-use Rattle.circ_files.specs.declared.status.Status.{Status}
+use Rattle.circ_status.specs.declared.status.Status.{Status}
 use Rattle.circ_top.specs.Command.{Command, Check, Upgrade, Expand}
 
 -- the places of a file's text, by the command that takes the file: lines of a proof, else statements

@@ -14,9 +14,9 @@ use Rattle.circ_proof_text.specs.ProofText.{proof_text}
 use Rattle.circ_conditional_search.specs.ConditionalSearch.{CanAllBeSearched}
 use Rattle.circ_read.specs.declared.cause.Cause.TheVariants as cause
 use Rattle.circ_files.specs.Files.{Refusal}
-use Rattle.circ_files.specs.declared.status.Status.{Status}
-use Rattle.circ_files.specs.declared.status.Status.TheVariants as status
-use Rattle.circ_files.specs.Ending.{Stored, Ending, ending}
+use Rattle.circ_status.specs.declared.status.Status.{Status}
+use Rattle.circ_status.specs.declared.status.Status.TheVariants as status
+use Rattle.circ_status.specs.Ending.{Stored, Ending, ending}
 use Rattle.circ_found.specs.Answering.{proved_text, SearchEnds}
 use Rattle.circ_search.specs.Plain.{conduct_with}
 use Rattle.circ_top.specs.Command.{Regex}

@@ -11,8 +11,8 @@ use Rattle.circ_script.specs.declared.job.Job.TheVariants as job
 use Rattle.circ_files.specs.Files.{Held, IsOnly, AreBytes, Holds, Refusal, RefusesFile, IsFileFault}
 use Rattle.circ_files.specs.ScriptFile.{ReadsScript, TakesScript, ScriptRefusal, IsScriptFault}
 use Rattle.circ_files.specs.TheoryFile.{TheoryRefusal}
-use Rattle.circ_files.specs.declared.status.Status.{Status}
-use Rattle.circ_files.specs.Ending.{Stored, Ending, ending}
+use Rattle.circ_status.specs.declared.status.Status.{Status}
+use Rattle.circ_status.specs.Ending.{Stored, Ending, ending}
 use Rattle.circ_top.specs.Command.{Command}
 use Rattle.circ_top.specs.Refusals.{refusal_text}
 

@@ -1,9 +1,9 @@
 -- What becomes of the file that a run stores.
 use Rattle.std.specs.Prelude.{◌≡◌, ◌≢◌, ◌⊎◌, ℕ, List, [], Option, Some, None, true}
 use Rattle.circ_outer.specs.Shelf.{ShelfState, Struck, IsQuiet, PutFrame}
-use Rattle.circ_files.specs.declared.status.Status.{Status}
-use Rattle.circ_files.specs.declared.status.Status.TheVariants as status
-use Rattle.circ_files.specs.Ending.{Stored}
+use Rattle.circ_status.specs.declared.status.Status.{Status}
+use Rattle.circ_status.specs.declared.status.Status.TheVariants as status
+use Rattle.circ_status.specs.Ending.{Stored}
 use Rattle.circ_top.specs.Delivery.{Prints, Delivers}
 use Rattle.circ_top.specs.Run.{Run}
 

@@ -5,8 +5,8 @@ use Rattle.circ_search.specs.Plain.{conduct_with}
 use Rattle.circ_conditional_search.specs.ConditionalSearch.{CanAllBeSearched}
 use Rattle.circ_trace.specs.Tracing.{TraceEnds}
 use Rattle.circ_files.specs.Files.{Held}
-use Rattle.circ_files.specs.Ending.{Stored, Ending}
-use Rattle.circ_files.specs.declared.status.Status.{Status}
+use Rattle.circ_status.specs.Ending.{Stored, Ending}
+use Rattle.circ_status.specs.declared.status.Status.{Status}
 use Rattle.circ_top.specs.Command.{Trace}
 use Rattle.circ_top.specs.Scripted.{GoalsEnd, to_prove, ScriptOutcome, IsDoneOn}
 use Rattle.circ_turn.specs.declared.search.Limits.{Limits}

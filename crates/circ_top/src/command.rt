@@ -4,7 +4,7 @@ ghost use Rattle.std.specs.Prelude.{IfOk, OnOk, IfErr};
 ghost use Rattle.circ_outer.specs.Shelf.{ShelfFrame, IsQuiet};
 ghost use Rattle.circ_outer.specs.Sink.{SinkFrame};
 ghost use Rattle.circ_top.specs.Command.{Asks, IsReport, IsBounded, plain_request};
-ghost use Rattle.circ_files.specs.Ending.{plain_stored, plain_ending};
+ghost use Rattle.circ_status.specs.Ending.{plain_stored, plain_ending};
 ghost use Rattle.circ_generate.specs.Generating.{Generates};
 ghost use Rattle.circ_top.specs.Run.{run_of};
 ghost use Rattle.circ_top.specs.Refusals.{refusal_text};
@@ -23,7 +23,6 @@ use crate::request::{Request, asked};
 use crate::trace::trace;
 use circ_attempt::laws::{one_answer as one_search, proved_is_accepted};
 use circ_auto::laws::read_in_one_way as automata_read_in_one_way;
-use circ_files::{Ending, Status, Stored};
 use circ_generate::generate;
 use circ_outer::{OuterFault, Shelf, Sink, write_all};
 use circ_proof_text::laws::one_answer;
@@ -35,6 +34,7 @@ use circ_reports::{check, contexts, expand, library, reduce, same, show, upgrade
 use circ_script::laws::read_in_one_way as scripts_read_in_one_way;
 use circ_show::laws::printed_in_one_way;
 use circ_soundness::{goals_behave, one_verdict};
+use circ_status::{Ending, Status, Stored};
 use std::alloc::Global;
 
 /// The program: `words` are its name and then a command with what it takes, which is

@@ -2,16 +2,17 @@
 ghost use Rattle.std.specs.Prelude.{◌≤◌, IfOk, IfErr};
 ghost use Rattle.circ_outer.specs.Shelf.{ShelfFrame};
 ghost use Rattle.circ_files.specs.Quiet.{IsQuietCall};
-ghost use Rattle.circ_files.specs.Ending.{plain_ending};
+ghost use Rattle.circ_status.specs.Ending.{plain_ending};
 ghost use Rattle.circ_top.specs.Differ.{IsDifferenceSought};
 ghost use Rattle.circ_top.specs.Scripted.{to_differ, RefusesScript};
 
-use circ_files::{Ending, Status, take_script, take_theory};
+use circ_files::{take_script, take_theory};
 use circ_found::{differ as look_for_difference, plainly_searchable};
 use circ_outer::Shelf;
 use circ_script::Job;
 use circ_script::laws::scripts_are_fit;
 use circ_search::Limits;
+use circ_status::{Ending, Status};
 use std::alloc::Global;
 
 /// How looking for a difference of a script's goals ends, or the answer in its place.

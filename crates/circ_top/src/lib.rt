@@ -12,5 +12,5 @@ pub mod sure;
 mod trace;
 mod words;
 
-pub use circ_files::Status;
+pub use circ_status::Status;
 pub use command::circ;

@@ -5,7 +5,7 @@ ghost use Rattle.circ_top.specs.Command.{plain_request};
 ghost use Rattle.circ_top.specs.Refusals.{place_text, refusal_text, usage_text};
 
 use crate::request::Request;
-use circ_files::{CHECKED_FILE, Status, push_counted, push_spent, push_unreadable};
+use circ_status::{CHECKED_FILE, Status, push_counted, push_spent, push_unreadable};
 use std::alloc::{AllocError, Global};
 
 /// The text of a command's refusal: nothing for the answers that have a text of their own, or

@@ -9,16 +9,16 @@ ghost use Rattle.circ_regex.specs.Member.{expression_term};
 ghost use Rattle.circ_conditional_search.specs.ConditionalSearch.{CanAllBeSearched};
 ghost use Rattle.circ_search.specs.Plain.{conduct_with};
 ghost use Rattle.circ_found.specs.Answering.{SearchEnds};
-ghost use Rattle.circ_files.specs.Ending.{plain_ending};
+ghost use Rattle.circ_status.specs.Ending.{plain_ending};
 ghost use Rattle.circ_top.specs.Regex.{IsWordFault, equality_goals, IsEqualitySearched};
 ghost use Rattle.circ_top.specs.Regex.{RefusesRegex};
 
-use circ_files::{Ending, Status};
 use circ_found::search;
 use circ_read::Cause;
 use circ_regex::laws::terms_are_sorted;
 use circ_regex::{Regex, RegexFault, lang_theory, read_regex, term_of};
 use circ_search::Limits;
+use circ_status::{Ending, Status};
 use circ_term::Term;
 use circ_theory::{Goal, Pairs};
 use std::alloc::{AllocError, Global};

@@ -2,15 +2,15 @@
 ghost use Rattle.std.specs.Prelude.{◌≡◌, ◌⊎◌, ℕ, List, Option, map, string_bytes};
 ghost use Rattle.circ_outer.specs.SureShelf.{holds_of, state_of as shelf_state};
 ghost use Rattle.circ_outer.specs.SureSink.{state_of as sink_state};
-ghost use Rattle.circ_files.specs.Ending.{Stored};
+ghost use Rattle.circ_status.specs.Ending.{Stored};
 ghost use Rattle.circ_top.specs.Outcome.{Outcome};
 ghost use Rattle.circ_top.specs.Promises.{Promises};
 ghost use Rattle.circ_top.specs.Run.{run_of};
 ghost use Rattle.circ_top.specs.InMemory.{HoldsFiles, AppendsAnswer, Appends};
 
 use crate::command::circ;
-use circ_files::Status;
 use circ_outer::{SureShelf, SureSink};
+use circ_status::Status;
 use std::alloc::Global;
 
 /// Runs [`circ`] over files and a text in memory, so that what it promises holds. No fault of the

@@ -16,8 +16,8 @@ use Rattle.circ_attempt.specs.Search.{Conduct, Going, going}
 use Rattle.circ_attempt.proofs.Answers.{some_ending}
 use Rattle.circ_conditional_search.specs.Versions.{versioned_found}
 use Rattle.circ_found.specs.Answering.{found_ending, SearchEnds}
-use Rattle.circ_files.specs.Ending.{Ending, plain_ending}
-use Rattle.circ_files.specs.declared.ending.Ending.{Ending as TheEnding}
+use Rattle.circ_status.specs.Ending.{Ending, plain_ending}
+use Rattle.circ_status.specs.declared.ending.Ending.{Ending as TheEnding}
 use Rattle.circ_trace.specs.Descents.{first_row, given_row}
 use Rattle.circ_trace.specs.Telling.{IsTold}
 use Rattle.circ_trace.specs.Tracing.{Turns, turns_text, after_lines, TraceEnds}

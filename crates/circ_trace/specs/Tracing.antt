@@ -12,7 +12,7 @@ use Rattle.circ_attempt.specs.RewritingSearch.{first_going}
 use Rattle.circ_attempt.specs.Search.{Conduct, Going, turn_rewriting}
 use Rattle.circ_conditional_search.specs.Versions.{versioned_found}
 use Rattle.circ_found.specs.Answering.{found_ending}
-use Rattle.circ_files.specs.Ending.{Ending, ending}
+use Rattle.circ_status.specs.Ending.{Ending, ending}
 use Rattle.circ_trace.specs.Account.{account}
 use Rattle.circ_trace.specs.Descents.{after_turn, first_row}
 use Rattle.circ_trace.specs.TurnText.{turn_text}

@@ -4,7 +4,7 @@ ghost use Rattle.circ_theory.specs.Theory.{Theory};
 ghost use Rattle.circ_theory.specs.Goal.{Goal};
 ghost use Rattle.circ_attempt.specs.Search.{Conduct};
 ghost use Rattle.circ_found.specs.Answering.{SearchEnds};
-ghost use Rattle.circ_files.specs.Ending.{Ending};
+ghost use Rattle.circ_status.specs.Ending.{Ending};
 ghost use Rattle.circ_trace.specs.Tracing.{TraceEnds, after_lines};
 
 /// What is traced ends as the search for a proof of the same goals does, with lines before.

@@ -6,9 +6,9 @@ ghost use Rattle.circ_trace.specs.TurnText.{shown, shown_sides, shown_goal, show
 ghost use Rattle.circ_trace.specs.TurnText.{derivative_text, hypothesis_text, further_hypothesis};
 ghost use Rattle.circ_trace.specs.TurnText.{hypothesis_lines, uses_line, split_line, cases_line};
 
-use circ_files::{push_counted, push_numbered};
 use circ_mixfix::{print, print_derivative, print_goal};
 use circ_split::first_open;
+use circ_status::{push_counted, push_numbered};
 use circ_term::Term;
 use circ_theory::{Goal, Theory};
 use std::alloc::{AllocError, Global};

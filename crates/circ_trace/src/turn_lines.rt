@@ -14,7 +14,7 @@ use crate::descents::first_descent;
 use crate::lines::{
     put_cases, put_derivative, put_goal, put_hypotheses, put_side, put_split, put_uses,
 };
-use circ_files::push_numbered;
+use circ_status::push_numbered;
 use circ_theory::{Goal, Theory};
 use circ_turn::State;
 use std::alloc::{AllocError, Global};

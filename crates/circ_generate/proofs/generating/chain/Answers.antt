@@ -1,5 +1,5 @@
 use Rattle.circ_files.proofs.FileFaults.{if_ok}
-use Rattle.circ_files.specs.Ending.{plain_ending}
+use Rattle.circ_status.specs.Ending.{plain_ending}
 use Rattle.circ_generate.specs.Generating.{Generates, unread_ending, no_theory}
 use Rattle.std.proofs.Common.{◌≡◌}
 use Rattle.circ_generate.proofs.generating.chain.Goals as goal

@@ -3,9 +3,9 @@ use Rattle.circ_proof.specs.Accepted.{FirstFail}
 use Rattle.circ_proof.specs.PlainProof.{plain_proof}
 use Rattle.circ_proof.specs.Proof.{Proof}
 use Rattle.circ_file.specs.Decoding.{Decodes}
-use Rattle.circ_files.specs.declared.status.Status.TheVariants as status
+use Rattle.circ_status.specs.declared.status.Status.TheVariants as status
 use Rattle.circ_files.proofs.FileFaults.{if_ok}
-use Rattle.circ_files.specs.Ending.{ending, plain_ending}
+use Rattle.circ_status.specs.Ending.{ending, plain_ending}
 use Rattle.circ_generate.specs.Generating.{summary_text}
 use Rattle.circ_generate.proofs.generating.summary.Goals as goal
 

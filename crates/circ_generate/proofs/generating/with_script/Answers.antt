@@ -1,6 +1,6 @@
 use Rattle.std.proofs.Common.{refl, sym, ap}
 use Rattle.circ_script.specs.Script.{plain_script}
-use Rattle.circ_files.specs.Ending.{stored_as, plain_stored, plain_ending}
+use Rattle.circ_status.specs.Ending.{stored_as, plain_stored, plain_ending}
 use Rattle.circ_generate.proofs.Summaries.{accepted_text, none_generates, some_generates}
 use Rattle.circ_generate.proofs.generating.with_script.Goals as goal
 

@@ -1,7 +1,7 @@
 use Rattle.circ_theory.specs.Theory.{Theory}
 use Rattle.circ_read.specs.ReadsAs.{ReadsAs}
 use Rattle.circ_files.proofs.FileFaults.{if_ok}
-use Rattle.circ_files.specs.Ending.{plain_ending}
+use Rattle.circ_status.specs.Ending.{plain_ending}
 use Rattle.circ_generate.specs.Chain.{chain_theory}
 use Rattle.circ_generate.specs.Generating.{Generates, unread_ending, no_script}
 use Rattle.std.proofs.Common.{◌≡◌, subst, sym}

@@ -9,8 +9,8 @@ use Rattle.circ_expand.specs.Answers.{LeadsOnGoal}
 use Rattle.circ_expand.specs.Expand.{Spending, expansion}
 use Rattle.circ_expand.specs.Pieces.{Pieces}
 use Rattle.circ_expand.specs.Rows.{plain_row}
-use Rattle.circ_files.specs.declared.status.Status.{Status}
-use Rattle.circ_files.specs.declared.status.Status.TheVariants as status
+use Rattle.circ_status.specs.declared.status.Status.{Status}
+use Rattle.circ_status.specs.declared.status.Status.TheVariants as status
 use Rattle.circ_files.proofs.FileFaults.{if_ok, if_err}
 use Rattle.circ_reports.specs.Expand.{by_units, Writes, WritesNone, rows_text, expanded_text}
 use Rattle.circ_reports.proofs.GoalSorts.{goal_sorts}

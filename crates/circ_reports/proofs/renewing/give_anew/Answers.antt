@@ -1,7 +1,7 @@
 use Rattle.std.proofs.Common.{Some, map, ap, ap₂}
 use Rattle.circ_proof.specs.PlainProof.{plain_block, plain_proof}
-use Rattle.circ_files.specs.declared.status.Status.TheVariants as status
-use Rattle.circ_files.specs.Ending.{stored_as, ending}
+use Rattle.circ_status.specs.declared.status.Status.TheVariants as status
+use Rattle.circ_status.specs.Ending.{stored_as, ending}
 use Rattle.circ_reports.proofs.renewing.give_anew.Goals as goal
 
 pub returns : goal.returns

@@ -3,7 +3,7 @@ use Rattle.circ_top.specs.Answer.{no_command, words_unread}
 use Rattle.circ_top.specs.Delivery.{whole}
 use Rattle.circ_top.specs.Storing.{stored_first}
 use Rattle.circ_top.specs.Refusals.{usage_text}
-use Rattle.circ_files.specs.declared.status.Status.TheVariants as status
+use Rattle.circ_status.specs.declared.status.Status.TheVariants as status
 use Rattle.circ_top.proofs.Requests.{asks_bounded}
 use Rattle.circ_top.proofs.command.answer.Goals as goal
 

@@ -2,7 +2,7 @@ use Rattle.circ_top.specs.Answer.{work_done, refusal}
 use Rattle.circ_top.specs.Command.{plain_request}
 use Rattle.circ_top.specs.Refusals.{refusal_text}
 use Rattle.circ_top.specs.Storing.{stored_first}
-use Rattle.circ_files.specs.Ending.{plain_stored}
+use Rattle.circ_status.specs.Ending.{plain_stored}
 use Rattle.std.proofs.Common.{None}
 use Rattle.circ_top.proofs.Concluding.{ends_since, quiet_run, refused_run}
 use Rattle.circ_top.proofs.command.answer_to.Goals as goal

@@ -2,7 +2,7 @@ use Rattle.std.proofs.Common.{sym}
 use Rattle.circ_script.specs.Script.{plain_script}
 use Rattle.circ_script.specs.declared.job.Job.TheVariants as job
 use Rattle.circ_files.specs.ScriptFile.{ScriptRefusal}
-use Rattle.circ_files.specs.declared.status.Status.TheVariants as status
+use Rattle.circ_status.specs.declared.status.Status.TheVariants as status
 use Rattle.circ_files.proofs.FileFaults.{quiet_fault}
 use Rattle.circ_files.proofs.Scripts.{script_before}
 use Rattle.circ_top.specs.Scripted.{theory_fault, script_fault}

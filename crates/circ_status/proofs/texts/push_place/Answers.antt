@@ -1,6 +1,6 @@
 use Rattle.std.specs.Prelude.{codes, decimal}
-use Rattle.circ_files.proofs.Joined.{on_ok_joined, place_joined}
-use Rattle.circ_files.proofs.texts.push_place.Goals as goal
+use Rattle.circ_status.proofs.Joined.{on_ok_joined, place_joined}
+use Rattle.circ_status.proofs.texts.push_place.Goals as goal
 
 pub returns : goal.returns
 returns c =

@@ -1,6 +1,6 @@
 //! What the program answers.
 ghost use Rattle.std.specs.Prelude.{◌≡◌};
-ghost use Rattle.circ_files.specs.Status.{number_of};
+ghost use Rattle.circ_status.specs.Status.{number_of};
 
 use circ_read::Cause;
 use std::alloc::AllocError;
@@ -90,7 +90,7 @@ pub enum Status {
 
 impl From<AllocError> for Status {
     ghost use Rattle.std.specs.Prelude.{◌≡◌};
-    ghost use Rattle.circ_files.specs.declared.status.Status.TheVariants.{Memory};
+    ghost use Rattle.circ_status.specs.declared.status.Status.TheVariants.{Memory};
 
     ghost from_gives = { λ _ status. status ≡ Memory };
 

@@ -1,8 +1,8 @@
 -- The numbers of the answers.
 use Rattle.std.specs.Prelude.{ℕ}
-use Rattle.circ_files.specs.declared.status.Status.{Status}
-use Rattle.circ_files.specs.declared.status.Status.TheVariants.{Ok, Refused, Unreadable, Usage, TooLong, Stuck, Spent, ReadFault, WriteFault, Memory, TooBig}
-use Rattle.circ_files.specs.declared.status.Status.TheVariants.{TooDeep, Differ, Expansion, Misfit}
+use Rattle.circ_status.specs.declared.status.Status.{Status}
+use Rattle.circ_status.specs.declared.status.Status.TheVariants.{Ok, Refused, Unreadable, Usage, TooLong, Stuck, Spent, ReadFault, WriteFault, Memory, TooBig}
+use Rattle.circ_status.specs.declared.status.Status.TheVariants.{TooDeep, Differ, Expansion, Misfit}
 
 abbrev pub number_of : Status → ℕ
 number_of Ok = 0

@@ -1,8 +1,8 @@
 -- How the work of a command ends, before anything is stored or printed.
 use Rattle.std.specs.Prelude.{ℕ, List, Option, Some, None}
-use Rattle.circ_files.specs.declared.status.Status.{Status}
-use Rattle.circ_files.specs.declared.ending.Ending.{Ending as TheEnding}
-use Rattle.circ_files.specs.declared.ending.Stored.{Stored as TheStored}
+use Rattle.circ_status.specs.declared.status.Status.{Status}
+use Rattle.circ_status.specs.declared.ending.Ending.{Ending as TheEnding}
+use Rattle.circ_status.specs.declared.ending.Stored.{Stored as TheStored}
 
 -- a file that is to be stored
 pub record Stored : Type 0 where

@@ -1,7 +1,7 @@
 //! The texts of answers, part by part.
 ghost use Rattle.std.specs.Prelude.{◌≡◌, ◌++◌, OnOk, codes, decimal};
-ghost use Rattle.circ_files.specs.Texts.{words_of_cause, details_of_cause, cause_text};
-ghost use Rattle.circ_files.specs.Texts.{unreadable_text, spent_text};
+ghost use Rattle.circ_status.specs.Texts.{words_of_cause, details_of_cause, cause_text};
+ghost use Rattle.circ_status.specs.Texts.{unreadable_text, spent_text};
 
 use circ_read::Cause;
 use itoa::Buffer;
