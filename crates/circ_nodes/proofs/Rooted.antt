@@ -1,9 +1,9 @@
 -- Terms are found by their roots.
-use Rattle.std.specs.Prelude.{◌≡◌, ℕ, ◌<◌, ◌≤◌, List, [], ◌∷◌, ◌++◌, length, Some, None, refl}
+use Rattle.std.specs.Prelude.{◌≡◌, ℕ, zero, suc, ◌+◌, ◌<◌, ◌≤◌, List, [], ◌∷◌, ◌++◌, length, Some, None, refl}
 use Rattle.std.specs.List.{slice_get}
 use Rattle.std.proofs.Common.{ap, sym, subst, ◌∙◌, arith, get_or, length-append, take, min, ◌⊎◌, inl, inr}
 use Rattle.std.proofs.lemmas.List.{length-take}
-use Rattle.std.proofs.lemmas.Option.{slice_get_within, slice_get_read}
+use Rattle.std.proofs.lemmas.Option.{slice_get_within, slice_get_read, same_Some}
 use Rattle.circ_term.specs.Tree.{Tree, Trees, Var, App, none, more, args_of}
 use Rattle.circ_term.specs.Limits.{argument_limit}
 use Rattle.circ_nodes.specs.declared.rows.Weight.{Weight}
@@ -59,6 +59,11 @@ root_later : (old new : List Tree) (p : PlainRoot) (t : Tree) → Grows old new 
 root_later old new (variable n s) t g h = h
 root_later old new (application f s ns) t g h = (h.0, h.1, are_named_later old new ns h.0 g h.2, h.3)
 
+below_at : (n : ℕ) (ns : List ℕ) (i m : ℕ) → AllByRecursion (λ j. j < n) ns → slice_get ns i ≡ Some m → m < n
+below_at n [] i m h e = absurd (cc)
+below_at n (x ∷ ns) zero m h e = let b = h.0 in omega (arith, b, same_Some x m e)
+below_at n (x ∷ ns) (suc i) m h e = below_at n ns i m h.1 e
+
 -- what the look-up of a root answers
 
 module _ {nodes : List Tree} {roots : List PlainRoot} {weights : List Weight} (k : IsKept nodes roots weights) where
@@ -98,6 +103,16 @@ module _ {nodes : List Tree} {roots : List PlainRoot} {weights : List Weight} (k
         let s = root_at n t e in
         let same = root_once nodes k.once r s.0 t root s.2 in
         absurd (h n (s.1 ∙ ap Some (sym same)))
+
+    -- and where its root has the last number as an argument
+    pub above_last : (i m : ℕ) → slice_get (arguments r) i ≡ Some m → length nodes ≤ m + 1 → Finds nodes t None
+    above_last i m arg last n e =
+        let s = root_at n t e in
+        let same = root_once nodes k.once r s.0 t root s.2 in
+        let P : PlainRoot → Type 0 = λ p. AllByRecursion (λ j. j < n) (arguments p) in
+        let below = below_at n (arguments r) i m (subst P (sym same) (k.before n s.0 s.1)) arg in
+        let there = named_below nodes n t e in
+        absurd (omega (arith, below, there, last))
 
     -- the new term goes last
     pub kept_push : (w : Weight) → HasWeight w t → Finds nodes t None → length nodes < 4294967295 → IsKept (nodes ++ t ∷ []) (roots ++ r ∷ []) (weights ++ w ∷ [])

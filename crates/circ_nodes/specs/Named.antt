@@ -5,6 +5,7 @@ use Rattle.std.specs.Option.{unwrap_or}
 use Rattle.circ_term.specs.Tree.{Tree, Trees, Var, App, none, more, at}
 use Rattle.circ_term.specs.Limits.{first_limit, IsWithinLimits, Names}
 use Rattle.circ_term.specs.declared.fault.TermFault.{TermFault}
+use Rattle.circ_term.specs.declared.fault.TermFault.TheVariants.{Memory}
 use Rattle.circ_nodes.specs.declared.nodes.Shape.{Shape}
 use Rattle.circ_nodes.specs.declared.nodes.Shape.TheVariants.{Variable, Application}
 
@@ -26,6 +27,11 @@ AreNamed nodes (n ∷ ns) (more t ts) = IsNamed nodes n t × AreNamed nodes ns t
 -- t was entered and nothing else: the terms are those of before where it has a number there, and else it comes last
 abbrev pub Enters : (old new : List Tree) → Tree → Type 0
 Enters old new t = ((n : ℕ) × IsNamed old n t × (new ≡ old)) ⊎ (((n : ℕ) → IsNamed old n t → ⊥) × (new ≡ old ++ t ∷ []))
+
+-- the same, where there may be no term
+abbrev pub EntersSome : (old new : List Tree) → Option Tree → Type 0
+EntersSome old new None = new ≡ old
+EntersSome old new (Some t) = Enters old new t
 
 -- each term that was added is such
 abbrev pub AddsOnly : (Tree → Type 0) → (old new : List Tree) → Type 0
@@ -52,6 +58,13 @@ HasShape nodes (Application op sort args) t = (ts : Trees) × (t ≡ App op sort
 abbrev pub Interns : (nodes : List Tree) → Result ℕ TermFault → Tree → Type 0
 Interns nodes (Ok n) u = IsNamed nodes n u × IsWithinLimits u
 Interns nodes (Err e) u = Names e (first_limit u)
+
+-- the same, where there may be no tree
+abbrev pub InternsSome : (nodes : List Tree) → Result (Option ℕ) TermFault → Option Tree → Type 0
+InternsSome nodes (Ok None) o = o ≡ None
+InternsSome nodes (Ok (Some n)) o = (t : Tree) × (o ≡ Some t) × IsNamed nodes n t × IsWithinLimits t
+InternsSome nodes (Err e) None = e ≡ Memory
+InternsSome nodes (Err e) (Some u) = Names e (first_limit u)
 
 -- the numbers of the arguments
 abbrev pub arguments_of : Shape → List ℕ

@@ -1,7 +1,8 @@
 -- How terms lie in memory: for each a row, and the numbers of the arguments of all.
-use Rattle.std.specs.Prelude.{◌≡◌, ℕ, zero, suc, ◌-◌, ◌≤◌, if◌then◌else◌, List, [], ◌∷◌, length, map, take, drop}
+use Rattle.std.specs.Prelude.{◌≡◌, ℕ, zero, suc, ◌-◌, ◌≤◌, if◌then◌else◌, List, [], ◌∷◌, length, map, take, drop, slice_set}
 use Rattle.circ_nodes.specs.declared.nodes.Shape.{Shape}
 use Rattle.circ_nodes.specs.declared.nodes.Shape.TheVariants.{Variable, Application}
+use Rattle.circ_nodes.specs.declared.rows.Changed.{Changed}
 use Rattle.circ_nodes.specs.declared.rows.Row.{Row}
 use Rattle.circ_nodes.specs.declared.rows.Rows.{Rows}
 use Rattle.circ_nodes.specs.declared.rows.Weight.{Weight}
@@ -19,6 +20,13 @@ plain_root (Application op sort args) = application op sort args.now
 abbrev pub arguments : PlainRoot → List ℕ
 arguments (variable number sort) = []
 arguments (application op sort args) = args
+
+-- the arguments with the other one at its place
+abbrev pub changed_args : Changed → List ℕ
+changed_args c = slice_set c.args.now c.place c.new
+
+abbrev pub changed_root : Changed → PlainRoot
+changed_root c = application c.op c.sort (changed_args c)
 
 -- the root of a row with these arguments
 abbrev pub root_of : Row → (args : List ℕ) → PlainRoot

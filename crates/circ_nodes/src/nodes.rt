@@ -1,21 +1,22 @@
 //! Terms that are kept by number.
 ghost use Rattle.std.specs.Prelude.{◌≡◌, ◌<◌, ◌≤◌, ◌^◌, ◌*◌, ◌↔◌, ℕ, [], length};
-ghost use Rattle.std.specs.Prelude.{◌++◌, ◌∷◌, take, None, IsTrue, IfOk, OnOk, OnErr};
+ghost use Rattle.std.specs.Prelude.{◌++◌, ◌∷◌, take, slice_set, None};
+ghost use Rattle.std.specs.Prelude.{IsTrue, IfOk, OnOk, OnErr};
 ghost use Rattle.std.specs.List.{slice_get, AllByRecursion};
 ghost use Rattle.circ_term.specs.Tree.{Tree, Trees, Var, App, args_of, trees_of, at};
-ghost use Rattle.circ_term.specs.Tree.{size_of, depth_of, sort_of, is_ground};
+ghost use Rattle.circ_term.specs.Tree.{size_of, depth_of, sort_of, is_ground, replaced};
 ghost use Rattle.circ_term.specs.Fingerprint.{mixed, fingerprint_of};
 ghost use Rattle.circ_term.specs.Limits.{IsWithinLimits};
 ghost use Rattle.circ_term.specs.Limits.{argument_limit, node_limit, depth_limit};
 ghost use Rattle.circ_term.specs.Growing.{Grows};
 ghost use Rattle.circ_nodes.specs.Named.{IsNamed, AreNamed, IsOnce, HasShape, Interns, tree_at};
 ghost use Rattle.circ_nodes.specs.Named.{Enters, AddsOnly, IsPart, IsPartOfSome};
-ghost use Rattle.circ_nodes.specs.Named.{arguments_of, Points};
+ghost use Rattle.circ_nodes.specs.Named.{arguments_of, Points, InternsSome, EntersSome};
 ghost use Rattle.circ_nodes.specs.Roots.{HasRoot, Finds, Tells, HasWeight, AreMeasures, Weighs};
-ghost use Rattle.circ_nodes.specs.Rows.{plain_root};
+ghost use Rattle.circ_nodes.specs.Rows.{plain_root, changed_args, changed_root};
 
 use crate::Numbers;
-use crate::rows::{Rows, Weight};
+use crate::rows::{Changed, Rows, Weight, changed_arg};
 use circ_hash_chains::HashChains;
 use circ_term::{
     Kind, MOST_ARGS, MOST_DEPTH, MOST_NODES, Term, TermFault, head_fingerprint, mixed,
@@ -256,15 +257,100 @@ impl Nodes {
             → OnOk result (Enters self.old self.new (App op sort ts)) }
         ensures err { OnErr result (self.new ≡ self.old) }
     {
-        let root = Shape::Application { op, sort, args };
         let key = self.fingerprint(op, sort, args);
-        if let Some(number) = self.find(root, key) {
+        if let Some(number) = self.find(Shape::Application { op, sort, args }, key) {
             self.known_at(number);
             return Ok(number);
         }
+        self.put_app(op, sort, args, key)
+    }
+
+    // The same where the term is new. It has this fingerprint.
+    fn put_app(&mut self, op: u32, sort: u32, args: &[u32], key: u32) -> Result<u32, TermFault>
+        requires few { length args.now ≤ MOST_ARGS }
+        requires there { AllByRecursion (λ n. n < length self.old) args.now }
+        requires key { (ts : Trees) → AreNamed self.old args.now ts
+            → key ≡ fingerprint_of (App op sort ts) }
+        requires fresh { (ts : Trees) → AreNamed self.old args.now ts
+            → Finds self.old (App op sort ts) None }
+        ensures grows { Grows self.old self.new }
+        ensures interns { (ts : Trees) → AreNamed self.old args.now ts
+            → Interns self.new result (App op sort ts) }
+        ensures enters { (ts : Trees) → AreNamed self.old args.now ts
+            → OnOk result (Enters self.old self.new (App op sort ts)) }
+        ensures err { OnErr result (self.new ≡ self.old) }
+    {
+        let root = Shape::Application { op, sort, args };
         match self.weigh(root) {
             Ok(weight) => Ok(self.put(root, key, weight)?),
             Err(fault) => Err(fault),
+        }
+    }
+
+    // The same. It stands apart, so that who calls it pays nothing for what it drops.
+    fn put_copy(&mut self, op: u32, sort: u32, args: Numbers, key: u32) -> Result<u32, TermFault>
+        requires few { length args.items ≤ MOST_ARGS }
+        requires there { AllByRecursion (λ n. n < length self.old) args.items }
+        requires key { (ts : Trees) → AreNamed self.old args.items ts
+            → key ≡ fingerprint_of (App op sort ts) }
+        requires fresh { (ts : Trees) → AreNamed self.old args.items ts
+            → Finds self.old (App op sort ts) None }
+        ensures grows { Grows self.old self.new }
+        ensures interns { (ts : Trees) → AreNamed self.old args.items ts
+            → Interns self.new result (App op sort ts) }
+        ensures enters { (ts : Trees) → AreNamed self.old args.items ts
+            → OnOk result (Enters self.old self.new (App op sort ts)) }
+        ensures err { OnErr result (self.new ≡ self.old) }
+    {
+        self.put_app(op, sort, args.as_slice(), key)
+    }
+
+    /// The number of the term of a number with another argument at a place. None where it has no
+    /// argument there. Costs as much as there are arguments, and no memory where the term is there.
+    /// After a fault the terms are as before.
+    pub fn with_argument(
+        &mut self,
+        number: u32,
+        place: usize,
+        new: u32,
+    ) -> Result<Option<u32>, TermFault>
+        requires number { number < length self.old }
+        requires new { new < length self.old }
+        ensures grows { Grows self.old self.new }
+        ensures interns { InternsSome self.new result
+            (replaced (tree_at self.old number) (place ∷ []) (tree_at self.old new)) }
+        ensures enters { OnOk result (EntersSome self.old self.new
+            (replaced (tree_at self.old number) (place ∷ []) (tree_at self.old new))) }
+        ensures err { OnErr result (self.new ≡ self.old) }
+    {
+        match self.shape(number) {
+            Shape::Variable { .. } => Ok(None),
+            Shape::Application { op, sort, args } => {
+                if place >= args.len() {
+                    return Ok(None);
+                }
+                if args[place] == new {
+                    self.known_at(number);
+                    return Ok(Some(number));
+                }
+                let root = Changed {
+                    op,
+                    sort,
+                    args,
+                    place,
+                    new,
+                };
+                let key = self.changed_fingerprint(root);
+                if let Some(found) = self.find_changed(root, key) {
+                    self.known_at(found);
+                    return Ok(Some(found));
+                }
+                let args = with_number(self.alloc, args, place, new)?;
+                match self.put_copy(op, sort, args, key) {
+                    Ok(made) => Ok(Some(made)),
+                    Err(fault) => Err(fault),
+                }
+            }
         }
     }
 
@@ -479,6 +565,19 @@ impl Nodes {
         all
     }
 
+    // The fingerprint of the term with this root.
+    fn changed_fingerprint(&self, root: Changed<'_>) -> u32
+        requires { AllByRecursion (λ n. n < length self.now) (changed_args root) }
+        ensures { (t : Tree) → HasRoot self.now (changed_root root.entry) t
+            → result ≡ fingerprint_of t }
+    {
+        let mut all = head_fingerprint(root.op, root.sort);
+        for i in 0..root.args.len() {
+            all = mixed(all, self.key(changed_arg(root, i)));
+        }
+        all
+    }
+
     // The number of the term with this root. It goes last where it is new, which may be known.
     fn enter(&mut self, is_new: bool, root: Shape<'_>, term: &Term) -> Result<u32, AllocError>
         requires root { HasRoot self.old (plain_root root) term.now }
@@ -521,6 +620,29 @@ impl Nodes {
                 return Some(number);
             }
             next = self.chains.older(number);
+        }
+        None
+    }
+
+    // The number of the term with this root, which has this fingerprint. None has the last term as
+    // an argument.
+    fn find_changed(&self, root: Changed<'_>, key: u32) -> Option<u32>
+        requires place { root.place < length root.args.now }
+        requires key { (t : Tree) → HasRoot self.now (changed_root root) t
+            → key ≡ fingerprint_of t }
+        ensures { (t : Tree) → HasRoot self.now (changed_root root.entry) t
+            → Finds self.now t result }
+    {
+        let after = root.new as usize + 1;
+        if after >= self.rows.rows.len() {
+            return None;
+        }
+        let mut next = self.chains.newest(key);
+        while let Some(found) = next {
+            if self.rows.is_changed(found, root) {
+                return Some(found);
+            }
+            next = self.chains.older(found);
         }
         None
     }
@@ -585,6 +707,21 @@ impl Nodes {
         }
         Ok(number as u32)
     }
+}
+
+// The numbers with another one at a place.
+fn with_number(
+    alloc: Global,
+    numbers: &[u32],
+    place: usize,
+    new: u32,
+) -> Result<Numbers, AllocError>
+    requires { place < length numbers.now }
+    ensures { IfOk result (λ v. v.items ≡ slice_set numbers.now place new) }
+{
+    let mut copy = Numbers::from_slice(alloc, numbers)?;
+    copy.as_mut_slice()[place] = new;
+    Ok(copy)
 }
 
 // What is kept of a variable.

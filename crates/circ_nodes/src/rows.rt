@@ -3,7 +3,7 @@ ghost use Rattle.std.specs.Prelude.{◌≡◌, ◌++◌, ◌∷◌, ◌-◌, ◌
 ghost use Rattle.std.specs.Prelude.{length, take, drop, Some, IsTrue, OnOk, OnErr};
 ghost use Rattle.std.specs.List.{slice_get};
 ghost use Rattle.circ_nodes.specs.Rows.{plain_root, arguments, roots, weights, begin_of};
-ghost use Rattle.circ_nodes.specs.Rows.{row_weight, root_of, IsLaid};
+ghost use Rattle.circ_nodes.specs.Rows.{row_weight, root_of, IsLaid, changed_args, changed_root};
 
 use crate::nodes::Shape;
 use std::alloc::{AllocError, Global};
@@ -30,6 +30,16 @@ pub(crate) struct Row {
     pub depth: u16,
     pub is_variable: bool,
     pub is_ground: bool,
+}
+
+// An operator on arguments, with another one at a place.
+#[derive(Clone, Copy)]
+pub(crate) struct Changed<'a> {
+    pub op: u32,
+    pub sort: u32,
+    pub args: &'a [u32],
+    pub place: usize,
+    pub new: u32,
 }
 
 // The terms by number, and the numbers of the arguments of all.
@@ -90,6 +100,16 @@ impl Rows {
             ↔ (slice_get (roots self.now) number ≡ Some (plain_root root.entry)) }
     {
         same(self.shape(number), root)
+    }
+
+    // Whether the term of a number has this root.
+    pub(crate) fn is_changed(&self, number: u32, root: Changed<'_>) -> bool
+        requires rows { IsLaid self.now }
+        requires there { number < length self.now.rows.items }
+        ensures { IsTrue result
+            ↔ (slice_get (roots self.now) number ≡ Some (changed_root root.entry)) }
+    {
+        same_changed(self.shape(number), root)
     }
 
     // What is kept of the term of a number beside its root.
@@ -202,4 +222,41 @@ fn same(a: Shape<'_>, b: Shape<'_>) -> bool
         ) => op == other && sort == other_sort && args == others,
         _ => false,
     }
+}
+
+fn same_changed(a: Shape<'_>, b: Changed<'_>) -> bool
+    ensures { IsTrue result ↔ (plain_root a.entry ≡ changed_root b.entry) }
+{
+    match a {
+        Shape::Variable { .. } => false,
+        Shape::Application { op, sort, args } => {
+            op == b.op && sort == b.sort && are_changed(args, b)
+        }
+    }
+}
+
+// Whether these are the arguments.
+fn are_changed(args: &[u32], root: Changed<'_>) -> bool
+    ensures { IsTrue result ↔ (args.now ≡ changed_args root.entry) }
+{
+    if args.len() != root.args.len() {
+        return false;
+    }
+    for i in 0..args.len() {
+        if args[i] != changed_arg(root, i) {
+            return false;
+        }
+    }
+    true
+}
+
+// The number of an argument.
+pub(crate) fn changed_arg(root: Changed<'_>, place: usize) -> u32
+    requires { place < length (changed_args root) }
+    ensures { slice_get (changed_args root.entry) place ≡ Some result }
+{
+    if place == root.place {
+        return root.new;
+    }
+    root.args[place]
 }
