@@ -45,7 +45,7 @@ pub(crate) fn rewrite(
     let Some(to) = instance_within(alloc, nodes, made, sides.to)? else {
         return Ok(None);
     };
-    exchange(alloc, nodes, Turned { from, to }, path, term)
+    exchange(nodes, Turned { from, to }, path, term)
 }
 
 // The pairs under the substitution. None where a term passes a limit.
@@ -100,7 +100,6 @@ fn instance_within(
 
 // One term is replaced by another at the path. Whether it stands there is one comparison.
 pub(crate) fn exchange(
-    alloc: Global,
     nodes: &mut Nodes,
     sides: Turned,
     path: &[u16],
@@ -120,13 +119,12 @@ pub(crate) fn exchange(
     if old != sides.from {
         return Ok(None);
     }
-    replaced_at(alloc, nodes, term, path, sides.to)
+    replaced_at(nodes, term, path, sides.to)
 }
 
 // The number of the term with another subterm at the path. None where the path leaves the term, or
 // it passes a limit then.
 pub(crate) fn replaced_at(
-    alloc: Global,
     nodes: &mut Nodes,
     term: u32,
     path: &[u16],
@@ -138,7 +136,7 @@ pub(crate) fn replaced_at(
     ensures exact { IfOk result (OfTerm nodes.new
         (GivesReplaced (tree_at nodes.old term) path.now (tree_at nodes.old new))) }
 {
-    match replace(alloc, nodes, term, path, new) {
+    match replace(nodes, term, path, new) {
         Ok(Some(made)) => Ok(Some(made)),
         Ok(None) => Ok(None),
         Err(TermFault::TooBig { .. }) => Ok(None),

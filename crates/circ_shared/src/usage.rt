@@ -214,7 +214,7 @@ impl Sources<'_> {
         ensures exact { IfOk result (OfUse nodes.new (GivesRewriting
             (goal_at nodes.old pattern.now) way path.now [] (tree_at nodes.old term))) }
     {
-        let made = exchange(self.alloc, nodes, pattern.sides.turned(way), path, term)?;
+        let made = exchange(nodes, pattern.sides.turned(way), path, term)?;
         Ok(unconditional(self.alloc, made))
     }
 
@@ -289,7 +289,7 @@ impl Sources<'_> {
         let Some(assumption) = sides_at(assumptions, number) else {
             return Ok(None);
         };
-        exchange(self.alloc, nodes, assumption.turned(way), path, term)
+        exchange(nodes, assumption.turned(way), path, term)
     }
 
     #[inline(never)]
@@ -317,7 +317,7 @@ impl Sources<'_> {
         if !self.has_content_of(nodes, op, old, new)? {
             return Ok(None);
         }
-        replaced_at(self.alloc, nodes, term, path, new)
+        replaced_at(nodes, term, path, new)
     }
 
     fn has_content_of(&self, nodes: &Nodes, op: u32, old: u32, new: u32) -> Result<bool, AllocError>
