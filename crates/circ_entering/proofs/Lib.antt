@@ -1,3 +1,5 @@
 pub mod Entered
 pub mod Judged
+mod Mentions
+pub mod Renumbering
 mod Working

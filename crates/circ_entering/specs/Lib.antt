@@ -1,2 +1,4 @@
 pub mod Numbered
+pub mod Naming
+pub mod Lines
 pub mod Work

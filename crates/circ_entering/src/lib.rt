@@ -4,10 +4,13 @@
 
 mod building;
 mod entering;
+mod lines;
+mod naming;
 mod numbered;
 mod work;
 
 pub use building::build_goal;
 pub use entering::{enter_goals, enter_hypotheses, enter_terms};
+pub use lines::NamedLines;
 pub use numbered::{Numbered, enter_rules};
 pub use work::Work;
