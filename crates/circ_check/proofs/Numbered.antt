@@ -1,18 +1,20 @@
 -- What has a number stays when terms are added, and what stays when a block ends.
 use Rattle.std.proofs.Common.{◌≡◌, ◌≤◌, ◌<◌, ℕ, zero, suc, true, List, [], ◌∷◌, ◌++◌, map, take, drop, length}
-use Rattle.std.proofs.Common.{refl, ap, sym, subst, ◌∙◌}
-use Rattle.std.proofs.lemmas.List.{take-append-drop, take-append-le, length-map}
+use Rattle.std.proofs.Common.{refl, ap, sym, subst, ◌∙◌, arith}
+use Rattle.std.specs.Prelude.{flat_map}
+use Rattle.std.proofs.lemmas.List.{take-append-drop, take-append-le}
 use Rattle.std.specs.List.{AllByRecursion}
 use Rattle.circ_term.specs.Growing.{Grows}
 use Rattle.circ_term.specs.Tree.{Tree}
 use Rattle.circ_theory.specs.Theory.{Theory, goal_of}
-use Rattle.circ_proof.specs.Plain.{LinkOf}
+use Rattle.circ_proof.specs.Plain.{LinkOf, ChainOf}
 use Rattle.circ_proof.specs.Link.{AllOfLinks}
-use Rattle.circ_proof.specs.Rules.{ProofStep, Simplify, AllOfStep}
-use Rattle.circ_proof.specs.Proof.{AreLinksFor, IsStepFor}
+use Rattle.circ_proof.specs.Rules.{IsSortedState, ProofStep, Simplify, AllOfStep}
+use Rattle.circ_proof.specs.Proof.{GoalNames, AreLinksFor, IsStepFor}
+use Rattle.circ_proof.specs.Parts.{Part}
 use Rattle.circ_soundness.proofs.Resolving.{steps_in_table}
-use Rattle.circ_nodes.specs.Named.{tree_at}
-use Rattle.circ_nodes.proofs.Located.{trees_later}
+use Rattle.circ_nodes.proofs.Building.{built_later}
+use Rattle.circ_nodes.proofs.Numbers.{grows_length}
 use Rattle.circ_shared.specs.Patterns.{goal_at, IsPattern}
 use Rattle.circ_shared.specs.declared.patterns.Pattern.{Pattern}
 use Rattle.circ_shared.proofs.Sharing.{goals_later, patterns_later}
@@ -22,10 +24,17 @@ use Rattle.circ_steps.specs.declared.derivative.SharedDerivative.{SharedDerivati
 use Rattle.circ_steps.specs.declared.rules.Rules.{Rules}
 use Rattle.circ_steps.specs.declared.states.SharedState.{SharedState}
 use Rattle.circ_steps.specs.States.{state_at}
-use Rattle.circ_steps.proofs.Numbering.{derivatives_later, all_later}
+use Rattle.circ_steps.proofs.Numbering.{derivatives_later}
+use Rattle.circ_steps.proofs.Staying.{state_later, state_there_later}
+use Rattle.circ_entering.specs.declared.lines.NamedLines.{NamedLines}
+use Rattle.circ_entering.specs.Lines.{line_numbers, lines_at, AreLinesAt, EntersLines}
+use Rattle.circ_entering.specs.Naming.{sides_terms, name_terms, names_terms}
+use Rattle.circ_entering.proofs.Renumbering.{stay_later, lines_later, lines_there, lines_length}
 use Rattle.circ_check.specs.declared.checker.Checker.{Checker}
-use Rattle.circ_check.specs.Checking.{Checking}
-use Rattle.circ_check.specs.Watching.{StaysIn, KnowsTheory, IsSound, checking_of}
+use Rattle.circ_check.specs.Checking.{Checking, TakesPart}
+use Rattle.circ_check.specs.Naming.{IsNameWithin}
+use Rattle.circ_check.specs.Ready.{IsPartReady}
+use Rattle.circ_check.specs.Watching.{StaysIn, KnowsTheory, IsSound, Took, IsAsBefore, checking_of}
 
 pub take_whole : {X : Type 0} (xs : List X) → take (length xs) xs ≡ xs
 take_whole [] = refl
@@ -49,9 +58,9 @@ pub base_stays : (n : ℕ) (old new : List Tree) → n ≤ length old → Grows 
 base_stays n old new h g = ap (take n) g.1 ∙ take-append-le n old g.0 h
 
 module _ (old new : List Tree) (g : Grows old new) where
-  pub stays_later : (table : List ℕ) (earlier own : List Pattern) → StaysIn old table earlier own → StaysIn new table earlier own
-  stays_later table earlier own s = record {
-    table = all_later old new g table s.table;
+  pub stays_later : (lines : NamedLines) (earlier own : List Pattern) → StaysIn old lines earlier own → StaysIn new lines earlier own
+  stays_later lines earlier own s = record {
+    lines_stay = stay_later old new lines g s.lines_stay;
     earlier = patterns_later old new g earlier s.earlier;
     own = patterns_later old new g own s.own;
   }
@@ -82,15 +91,15 @@ knows_all th a b c g k es ds e p d = record {
 
 module _ (th : Theory) (k : Checker) (s : IsSound th k) where
   -- what stays is among all terms
-  pub all_stays : StaysIn k.nodes k.table.items (take k.earlier k.state.hyps.items) k.own.items
-  all_stays = stays_later (take k.base k.nodes) k.nodes (base_grows k.base k.nodes) k.table.items (take k.earlier k.state.hyps.items) k.own.items s.stays
+  pub all_stays : StaysIn k.nodes k.lines (take k.earlier k.state.hyps.items) k.own.items
+  all_stays = stays_later (take k.base k.nodes) k.nodes (base_grows k.base k.nodes) k.lines (take k.earlier k.state.hyps.items) k.own.items s.stays
 
   pub all_known : k.is_begun ≡ true → KnowsTheory th k.nodes k.equations.items k.derivatives.items
   all_known b = knows_later (take k.base k.nodes) k.nodes (base_grows k.base k.nodes) th k.equations.items k.derivatives.items (s.begun b)
 
   -- it judges by the theory and its table
   pub rules_there : k.is_begun ≡ true → (r : Rules) → r.theory.now ≡ th → r.equations.now ≡ k.equations.items → r.derivatives.now ≡ k.derivatives.items
-      → r.table.now ≡ k.table.items → AreRules k.nodes r
+      → r.table.now ≡ line_numbers k.lines → AreRules k.nodes r
   rules_there b r t e d n =
       let known = all_known b in
       let P : List Pattern → Type 0 = AllByRecursion (IsPattern k.nodes) in
@@ -101,7 +110,7 @@ module _ (th : Theory) (k : Checker) (s : IsSound th k) where
         equations = ap (map (goal_at k.nodes)) e ∙ known.equations ∙ sym (ap (λ x. map goal_of x.equations) t);
         patterns = subst P (sym e) known.patterns;
         derivatives = subst T (sym t) (subst D (sym d) known.derivatives);
-        table = subst N (sym n) all_stays.table;
+        table = subst N (sym n) (lines_there k.nodes k.lines s.lines);
       }
 
   -- More terms, and another state: what was taken stays, but for the state.
@@ -113,22 +122,85 @@ module _ (th : Theory) (k : Checker) (s : IsSound th k) where
     checking_moved =
         let before = take k.earlier (state_at m t).hypotheses in
         ap (λ y. record (checking_of k) { table = y; before = before; own = map (goal_at m) k.own.items; state = state_at m t })
-        (trees_later k.nodes m k.table.items g all_stays.table)
+        (lines_later k.nodes m k.lines g s.lines)
         ∙ ap (λ y. record (checking_of k) { before = before; own = y; state = state_at m t }) (goals_later k.nodes m g k.own.items all_stays.own)
+
+  -- Lines that get their own numbers change nothing of what was taken.
+  module _ (m : List Tree) (g : Grows k.nodes m) (l : NamedLines) (e : EntersLines k.nodes m k.lines l) where
+    abbrev pub entered : Checker
+    entered = record k { nodes = m; lines = l }
+
+    same_state : state_at m k.state ≡ state_at k.nodes k.state
+    same_state = state_later k.nodes m g k.state s.state
+
+    pub entered_sound : IsSound th entered
+    entered_sound =
+        let base : take k.base m ≡ take k.base k.nodes = base_stays k.base k.nodes m s.base g in
+        let T : List Tree → Type 0 = λ ts. StaysIn ts l (take k.earlier k.state.hyps.items) k.own.items in
+        let K : List Tree → Type 0 = λ ts. KnowsTheory th ts k.equations.items k.derivatives.items in
+        record {
+          theory = s.theory;
+          unspent = s.unspent;
+          within = s.within;
+          base = omega (arith, s.base, grows_length k.nodes m g);
+          lines = e.lines;
+          stays = subst T (sym base) (record {
+            lines_stay = e.stay (take k.base k.nodes) s.stays.lines_stay;
+            earlier = s.stays.earlier;
+            own = s.stays.own;
+          });
+          state = state_there_later k.nodes m g k.state s.state;
+          built = built_later k.nodes m k.terms g s.built;
+          sorted = subst (IsSortedState th) (sym same_state) s.sorted;
+          begun = λ b. subst K (sym base) (s.begun b);
+        }
+
+    pub entered_same : checking_of entered ≡ checking_of k
+    entered_same =
+        let c : Checking = checking_of k in
+        ap (λ y. record c {
+          table = y;
+          before = take k.earlier (map (goal_at m) k.state.hyps.items);
+          own = map (goal_at m) k.own.items;
+          state = state_at m k.state;
+        }) e.terms
+        ∙ ap (λ y. record c { before = take k.earlier y; own = map (goal_at m) k.own.items; state = state_at m k.state })
+        (goals_later k.nodes m g k.state.hyps.items s.state.hypotheses)
+        ∙ ap (λ y. record c { own = y; state = state_at m k.state }) (goals_later k.nodes m g k.own.items all_stays.own)
+        ∙ ap (λ y. record c { state = y }) same_state
+
+    pub entered_ready : (x : Part) → IsPartReady th (checking_of k) x → IsPartReady th (checking_of entered) x
+    entered_ready x r = let P : Checking → Type 0 = λ c. IsPartReady th c x in subst P (sym entered_same) r
+
+    pub entered_took : (x : Part) (new : Checker) → Took th x entered new → Took th x k new
+    entered_took x new t =
+        let P : Checking → Type 0 = λ c. TakesPart th x c (checking_of new) in
+        record { sound = t.sound; begun = t.begun; taken = subst P entered_same t.taken }
+
+    pub entered_kept : (new : Checker) → IsAsBefore entered new → IsAsBefore k new
+    entered_kept new b = record { failed = b.failed; derived = b.derived }
 
 -- ---- numbers of the table
 
-pub table_length : (nodes : List Tree) (ns : List ℕ) → length (map (tree_at nodes) ns) ≡ length ns
-table_length nodes ns = length-map ns (tree_at nodes)
-
-pub step_in_table : (nodes : List Tree) (ns : List ℕ) (x : ProofStep ℕ) → IsStepFor (length (map (tree_at nodes) ns)) x
-    → AllOfStep (λ n. n < length ns) x
-step_in_table nodes ns x f =
+pub step_in_table : (nodes : List Tree) (l : NamedLines) → AreLinesAt nodes l → (x : ProofStep ℕ) → IsStepFor (length (lines_at nodes l)) x
+    → AllOfStep (λ n. n < length (line_numbers l)) x
+step_in_table nodes l a x f =
     let P : ℕ → Type 0 = λ n. IsStepFor n x in
-    (steps_in_table (length ns) (x ∷ []) (subst P (table_length nodes ns) f, tt)).0
+    (steps_in_table (length (line_numbers l)) (x ∷ []) (subst P (lines_length nodes l a) f, tt)).0
 
-pub links_in_table : (nodes : List Tree) (ns : List ℕ) (ls : List (LinkOf ℕ)) → AreLinksFor (length (map (tree_at nodes) ns)) ls
-    → AllOfLinks (λ n. n < length ns) ls
-links_in_table nodes ns ls f =
+pub links_in_table : (nodes : List Tree) (l : NamedLines) → AreLinesAt nodes l → (ls : List (LinkOf ℕ)) → AreLinksFor (length (lines_at nodes l)) ls
+    → AllOfLinks (λ n. n < length (line_numbers l)) ls
+links_in_table nodes l a ls f =
     let P : ℕ → Type 0 = λ n. AreLinksFor n ls in
-    (steps_in_table (length ns) (Simplify (record { left = ls; right = [] }) ∷ []) ((subst P (table_length nodes ns) f, tt), tt)).0.0
+    let chain : ChainOf ℕ = record { left = ls; right = [] } in
+    (steps_in_table (length (line_numbers l)) (Simplify chain ∷ []) ((subst P (lines_length nodes l a) f, tt), tt)).0.0
+
+-- the numbers that names hold are below a count
+conds_within : (count : ℕ) (cs : List (ℕ × ℕ)) → AllByRecursion (λ c. (c.0 < count) × (c.1 < count)) cs → AllByRecursion (λ n. n < count) (flat_map sides_terms cs)
+conds_within count [] a = tt
+conds_within count (c ∷ cs) a = (a.0.0, (a.0.1, conds_within count cs a.1))
+
+pub names_within : (count : ℕ) (ns : List GoalNames) → AllByRecursion (IsNameWithin count) ns → AllByRecursion (λ n. n < count) (names_terms ns)
+names_within count [] a = tt
+names_within count (n ∷ ns) a =
+    all_both (λ m. m < count) (name_terms n) (names_terms ns) (a.0.left, (a.0.right, conds_within count n.conds a.0.conds)) (names_within count ns a.1)

@@ -26,11 +26,9 @@ use Rattle.circ_soundness.proofs.Sound.{goals_behave}
 use Rattle.circ_rules.specs.Answers.{Applies}
 use Rattle.circ_rules.specs.Due.{due_after, CertifiesNext}
 use Rattle.circ_rules.specs.declared.due.Due.{Due}
-use Rattle.circ_nodes.specs.Named.{tree_at}
 use Rattle.circ_nodes.specs.Built.{AreBuilt}
-use Rattle.circ_nodes.proofs.Numbers.{grows_length}
+use Rattle.circ_nodes.proofs.Numbers.{grows_more, grows_length}
 use Rattle.circ_nodes.proofs.Building.{built_later}
-use Rattle.circ_nodes.proofs.Located.{trees_later}
 use Rattle.circ_shared.specs.Patterns.{goal_at, IsPattern}
 use Rattle.circ_shared.specs.declared.patterns.Pattern.{Pattern}
 use Rattle.circ_shared.proofs.Sharing.{goals_later, patterns_later}
@@ -38,14 +36,16 @@ use Rattle.circ_steps.specs.States.{state_at, shared_goals, IsGoalThere, IsState
 use Rattle.circ_steps.specs.declared.derivative.SharedDerivative.{SharedDerivative}
 use Rattle.circ_steps.specs.declared.states.SharedGoal.{SharedGoal}
 use Rattle.circ_steps.specs.declared.states.SharedState.{SharedState}
-use Rattle.circ_steps.proofs.Numbering.{all_later}
 use Rattle.circ_steps.proofs.Staying.{state_later, state_there_later}
+use Rattle.circ_entering.specs.declared.lines.NamedLines.{NamedLines}
+use Rattle.circ_entering.specs.Lines.{numbered_at, lines_at, AreLinesAt, LinesStay}
+use Rattle.circ_entering.proofs.Renumbering.{at_later, stay_later, lines_later, stay_lines}
 use Rattle.circ_check.specs.declared.checker.Checker.{Checker}
 use Rattle.circ_check.specs.declared.tally.Tally.{Tally}
 use Rattle.circ_check.specs.Checking.{Checking, TakesCertificate, TakesGoals, TakesStep, nothing_taken, made_by, counted, with_one, with_failure, with_derived}
 use Rattle.circ_check.specs.Deciding.{plain_list, Finds, FoundBehave}
 use Rattle.circ_check.specs.Ready.{IsPartReady}
-use Rattle.circ_check.specs.Watching.{failed_of, derived_of, checking_of, StaysIn, KnowsTheory, IsSound, Stands, FitsNext, IsBehindHead, Took, Notes}
+use Rattle.circ_check.specs.Watching.{failed_of, derived_of, checking_of, StaysIn, KnowsTheory, IsSound, Stands, FitsNext, IsBehindHead, Took, EndsBlock, Notes}
 use Rattle.circ_check.proofs.Fitting.{part_ready}
 use Rattle.circ_check.proofs.Finding.{part_more, parts_taken, failed_early, step_makes}
 use Rattle.circ_check.proofs.Numbered.{take_whole, map_taken, all_both, base_grows, base_stays, knows_later, all_stays, checking_moved}
@@ -83,12 +83,12 @@ took_stands th xs x old new s took =
 
 -- ---- the head
 
-pub head_taken : (k : Checker) (m : List Tree) (es : Vec Pattern Global) (ds : Vec SharedDerivative Global) (ns : Vec ℕ Global) (table : List Tree)
+pub head_taken : (k : Checker) (m : List Tree) (es : Vec Pattern Global) (ds : Vec SharedDerivative Global) (l : NamedLines) (table : List Tree)
     (places : List Place) (d : Due) (n : ℕ) → IsSound k.theory.now k → Grows k.nodes m → KnowsTheory k.theory.now m es.items ds.items
-    → AllByRecursion (λ x. x < length m) ns.items → map (tree_at m) ns.items ≡ table → due_after k.theory.now places d ≡ due k.theory.now places
+    → AreLinesAt m l → LinesStay m l → lines_at m l ≡ table → due_after k.theory.now places d ≡ due k.theory.now places
     → n ≡ length m → Took k.theory.now (Head table places) k
-    (record k { nodes = m; equations = es; derivatives = ds; table = ns; gamma = places; due = d; base = n; is_begun = true })
-head_taken k m es ds ns table places d n s g knows there same all count =
+    (record k { nodes = m; equations = es; derivatives = ds; lines = l; gamma = places; due = d; base = n; is_begun = true })
+head_taken k m es ds l table places d n s g knows lines stay same all count =
     let th : Theory = k.theory.now in
     let c : Checking = checking_of k in
     let stays = all_stays th k s in
@@ -97,7 +97,7 @@ head_taken k m es ds ns table places d n s g knows there same all count =
     let own : map (goal_at m) k.own.items ≡ c.own = goals_later k.nodes m g k.own.items stays.own in
     let same_state : state_at m k.state ≡ c.state = state_later k.nodes m g k.state s.state in
     let S : State → Type 0 = IsSortedState th in
-    let Q : List Tree → Type 0 = λ ts. StaysIn ts ns.items (take k.earlier k.state.hyps.items) k.own.items in
+    let Q : List Tree → Type 0 = λ ts. StaysIn ts l (take k.earlier k.state.hyps.items) k.own.items in
     let K : List Tree → Type 0 = λ ts. KnowsTheory th ts es.items ds.items in
     record {
       sound = record {
@@ -105,8 +105,9 @@ head_taken k m es ds ns table places d n s g knows there same all count =
         unspent = s.unspent;
         within = s.within;
         base = omega (arith, count);
+        lines = lines;
         stays = subst Q (sym whole) (record {
-          table = there;
+          lines_stay = stay;
           earlier = patterns_later k.nodes m g (take k.earlier k.state.hyps.items) stays.earlier;
           own = patterns_later k.nodes m g k.own.items stays.own;
         });
@@ -152,7 +153,7 @@ next_taken k d false ls (x ∷ xs) e h n =
 
 pub certificate_taken : (k : Checker) (m : List Tree) (d : Due) (t : Tally) (holds : Bool) (ls : List (LinkOf ℕ)) → IsSound k.theory.now k → k.is_begun ≡ true
     → 0 < length (checking_of k).due → m ≡ k.nodes → t ≡ counted holds k.tally
-    → CertifiesNext k.theory.now k.gamma k.due d (resolved_links (map (tree_at k.nodes) k.table.items) ls) holds
+    → CertifiesNext k.theory.now k.gamma k.due d (resolved_links (lines_at k.nodes k.lines) ls) holds
     → Took k.theory.now (Certificate ls) k (record k { nodes = m; due = d; tally = t })
 certificate_taken k m d t holds ls s b h same count n =
     let th : Theory = k.theory.now in
@@ -164,6 +165,7 @@ certificate_taken k m d t holds ls s b h same count n =
         unspent = s.unspent;
         within = s.within;
         base = s.base;
+        lines = s.lines;
         stays = s.stays;
         state = s.state;
         built = s.built;
@@ -171,7 +173,7 @@ certificate_taken k m d t holds ls s b h same count n =
         begun = s.begun;
       };
       begun = b;
-      taken = next_taken k d holds (resolved_links (map (tree_at k.nodes) k.table.items) ls) (checking_of k).due refl h n;
+      taken = next_taken k d holds (resolved_links (lines_at k.nodes k.lines) ls) (checking_of k).due refl h n;
     }))
 
 -- ---- a block
@@ -188,6 +190,7 @@ block_named k lists goals names s b stopped list =
         unspent = s.unspent;
         within = s.within;
         base = s.base;
+        lines = s.lines;
         stays = s.stays;
         state = s.state;
         built = s.built;
@@ -197,6 +200,13 @@ block_named k lists goals names s b stopped list =
       begun = b;
       taken = subst Q (sym stopped) (ap (λ y. record c { derived = y }) list);
     }
+
+-- a block that ends leaves the lines of the table
+pub block_lines : (k : Checker) → IsSound k.theory.now k → (m : Checker) → EndsBlock k m → lines_at m.nodes m.lines ≡ (checking_of k).table
+block_lines k s m e =
+    let base = take k.base k.nodes in
+    ap (λ ts. lines_at ts m.lines) e.nodes ∙ ap (λ x. lines_at base x.lines) e.others
+    ∙ sym (stay_lines base k.nodes k.lines (base_grows k.base k.nodes) s.stays.lines_stay)
 
 -- where no step has failed: from the block that ended to the next one
 module _ (k : Checker) (s : IsSound k.theory.now k) (b : k.is_begun ≡ true) (going : k.is_stopped ≡ false) where
@@ -216,16 +226,18 @@ module _ (k : Checker) (s : IsSound k.theory.now k) (b : k.is_begun ≡ true) (g
       ∙ map-append (goal_at k.nodes) (take k.earlier k.state.hyps.items) k.own.items
       ∙ ap (λ x. x ++ map (goal_at k.nodes) k.own.items) (map_taken (goal_at k.nodes) k.earlier k.state.hyps.items)
 
-  kept_table : map (tree_at base) k.table.items ≡ (checking_of k).table
-  kept_table = sym (trees_later base k.nodes k.table.items (base_grows k.base k.nodes) s.stays.table)
+  kept_table : lines_at base k.lines ≡ (checking_of k).table
+  kept_table = sym (stay_lines base k.nodes k.lines (base_grows k.base k.nodes) s.stays.lines_stay)
 
-  pub block_begun : (m : List Tree) (hyps : Vec Pattern Global) (gs : VecDeque SharedGoal Global) (own : Vec Pattern Global) (terms : List (ℕ × Tree)) (n e : ℕ)
-      (lists : Vec (Vec Goal Global) Global) (goals : List Goal) (names : List GoalNames) → Grows base m → hyps.items ≡ kept → e ≡ length hyps.items → AreBuilt base terms
-      → AllByRecursion (IsGoalThere m) gs.items → shared_goals m gs.items ≡ map (named_goal (map (tree_at base) k.table.items)) names
-      → AllByRecursion (IsPattern m) own.items → map (goal_at m) own.items ≡ map (named_goal (map (tree_at base) k.table.items)) names → n ≡ length m
+  pub block_begun : (d : List Tree) (l : NamedLines) (m : List Tree) (hyps : Vec Pattern Global) (gs : VecDeque SharedGoal Global) (own : Vec Pattern Global) (terms : List (ℕ × Tree)) (n e : ℕ)
+      (lists : Vec (Vec Goal Global) Global) (goals : List Goal) (names : List GoalNames) → Grows base d → AreLinesAt d l → LinesStay d l → lines_at d l ≡ lines_at base k.lines
+      → map (named_goal (numbered_at d l)) names ≡ map (named_goal (lines_at d l)) names → Grows d m → hyps.items ≡ kept → e ≡ length hyps.items
+      → AreBuilt base terms → AllByRecursion (IsGoalThere m) gs.items → shared_goals m gs.items ≡ map (named_goal (numbered_at d l)) names
+      → AllByRecursion (IsPattern m) own.items → map (goal_at m) own.items ≡ map (named_goal (numbered_at d l)) names → n ≡ length m
       → map plain_list lists.items ≡ derived_of k ++ [] ∷ [] → IsPartReady k.theory.now (checking_of k) (Goals goals names)
       → Took k.theory.now (Goals goals names) k (record k {
         nodes = m;
+        lines = l;
         state = record { hyps = hyps; goals = gs };
         earlier = e;
         own = own;
@@ -233,10 +245,11 @@ module _ (k : Checker) (s : IsSound k.theory.now k) (b : k.is_begun ≡ true) (g
         terms = terms;
         derived = lists;
       })
-  block_begun m hyps gs own terms n e lists goals names g is count built there seen patterns owned size list ready =
+  block_begun d l m hyps gs own terms n e lists goals names more lines stay same rightly further is count built there seen patterns owned size list ready =
       let c : Checking = checking_of k in
-      let named : map (named_goal (map (tree_at base) k.table.items)) names ≡ goals =
-      ap (λ ts. map (named_goal ts) names) kept_table ∙ sym ready.part.2.goals_are in
+      let g : Grows base m = grows_more base d m more further in
+      let named : map (named_goal (numbered_at d l)) names ≡ goals =
+      rightly ∙ ap (λ ts. map (named_goal ts) names) (same ∙ kept_table) ∙ sym ready.part.2.goals_are in
       let H : List Goal = c.before ++ c.own in
       let kept_here : AllByRecursion (IsPattern base) hyps.items = subst (AllByRecursion (IsPattern base)) (sym is) kept_there in
       let hypotheses : map (goal_at m) hyps.items ≡ H = goals_later base m g hyps.items kept_here ∙ ap (map (goal_at base)) is ∙ kept_goals in
@@ -245,12 +258,13 @@ module _ (k : Checker) (s : IsSound k.theory.now k) (b : k.is_begun ≡ true) (g
       ap (λ x. take x (map (goal_at m) hyps.items)) long ∙ take_whole (map (goal_at m) hyps.items) ∙ hypotheses in
       let own_seen : map (goal_at m) own.items ≡ goals = owned ∙ named in
       let goals_seen : shared_goals m gs.items ≡ goals = seen ∙ named in
-      let table : map (tree_at m) k.table.items ≡ c.table = trees_later base m k.table.items g s.stays.table ∙ kept_table in
+      let table : lines_at m l ≡ c.table = lines_later d m l further lines ∙ same ∙ kept_table in
       let whole : take n m ≡ m = ap (λ x. take x m) size ∙ take_whole m in
       let all_hyps : take e hyps.items ≡ hyps.items = ap (λ x. take x hyps.items) count ∙ take_whole hyps.items in
       let D : Checking → Type 0 = λ x. x ≡ record c { before = H; own = goals; state = state H goals; derived = c.derived ++ [] ∷ [] } in
       let Q : Bool → Type 0 = λ x. TakesGoals c x goals (checking_of (record k {
         nodes = m;
+        lines = l;
         state = record { hyps = hyps; goals = gs };
         earlier = e;
         own = own;
@@ -258,7 +272,7 @@ module _ (k : Checker) (s : IsSound k.theory.now k) (b : k.is_begun ≡ true) (g
         terms = terms;
         derived = lists;
       })) in
-      let T : List Tree → Type 0 = λ ts. StaysIn ts k.table.items (take e hyps.items) own.items in
+      let T : List Tree → Type 0 = λ ts. StaysIn ts l (take e hyps.items) own.items in
       let E : List Pattern → Type 0 = AllByRecursion (IsPattern m) in
       let K : List Tree → Type 0 = λ ts. KnowsTheory k.theory.now ts k.equations.items k.derivatives.items in
       let S : State → Type 0 = IsSortedState k.theory.now in
@@ -271,8 +285,9 @@ module _ (k : Checker) (s : IsSound k.theory.now k) (b : k.is_begun ≡ true) (g
           unspent = s.unspent;
           within = omega (arith, count);
           base = omega (arith, size);
+          lines = at_later d m l further lines;
           stays = subst T (sym whole) (record {
-            table = all_later base m g k.table.items s.stays.table;
+            lines_stay = stay_later d m l further stay;
             earlier = subst E (sym all_hyps) (patterns_later base m g hyps.items kept_here);
             own = patterns;
           });
@@ -325,6 +340,10 @@ pub on_err : {T E A : Type 0} (r : Result T E) → A → OnErr r A
 on_err (Ok x) a = tt
 on_err (Err e) a = a
 
+pub on_err_to : {T E A B : Type 0} (r : Result T E) → (A → B) → OnErr r A → OnErr r B
+on_err_to (Ok x) f a = tt
+on_err_to (Err e) f a = f a
+
 -- ---- a step that was tried
 
 -- after one that failed it is counted alone
@@ -339,6 +358,7 @@ step_counted k t x s b stopped e =
         unspent = s.unspent;
         within = s.within;
         base = s.base;
+        lines = s.lines;
         stays = s.stays;
         state = s.state;
         built = s.built;
@@ -364,14 +384,15 @@ module _ (k : Checker) (s : IsSound k.theory.now k) (b : k.is_begun ≡ true) (g
       let base : take k.base m ≡ take k.base k.nodes = base_stays k.base k.nodes m s.base g in
       let hyps : take k.earlier t.hyps.items ≡ take k.earlier k.state.hyps.items =
       ap (take k.earlier) added.1 ∙ take-append-le k.earlier k.state.hyps.items added.0 s.within in
-      let T : List Tree → Type 0 = λ ts. StaysIn ts k.table.items (take k.earlier t.hyps.items) k.own.items in
-      let E : List Pattern → Type 0 = λ ps. StaysIn (take k.base k.nodes) k.table.items ps k.own.items in
+      let T : List Tree → Type 0 = λ ts. StaysIn ts k.lines (take k.earlier t.hyps.items) k.own.items in
+      let E : List Pattern → Type 0 = λ ps. StaysIn (take k.base k.nodes) k.lines ps k.own.items in
       let K : List Tree → Type 0 = λ ts. KnowsTheory th ts k.equations.items k.derivatives.items in
       record {
         theory = refl;
         unspent = s.unspent;
         within = omega (arith, s.within, ap length added.1, length-append k.state.hyps.items added.0);
         base = omega (arith, s.base, grows_length k.nodes m g);
+        lines = at_later k.nodes m k.lines g s.lines;
         stays = subst T (sym base) (subst E (sym hyps) s.stays);
         state = there;
         built = built_later k.nodes m terms g built;
@@ -380,7 +401,7 @@ module _ (k : Checker) (s : IsSound k.theory.now k) (b : k.is_begun ≡ true) (g
       }
 
   pub step_noted : (new : Checker) (x : ProofStep ℕ) (holds : Bool) (made : List Goal) → made ≡ made_by x (shared_goals k.nodes k.state.goals.items)
-      → Applies k.theory.now k.gamma (map_step (named (map (tree_at k.nodes) k.table.items)) x) (state_at k.nodes k.state) (state_at m t) holds
+      → Applies k.theory.now k.gamma (map_step (named (lines_at k.nodes k.lines)) x) (state_at k.nodes k.state) (state_at m t) holds
       → Notes holds made (record k { nodes = m; terms = terms; state = t }) new → Took k.theory.now (Step x) k new
   step_noted new x true made is applies (e, d) =
       let th : Theory = k.theory.now in

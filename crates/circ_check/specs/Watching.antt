@@ -10,13 +10,14 @@ use Rattle.circ_proof.specs.Proof.{Proof, ProofFor}
 use Rattle.circ_proof.specs.Parts.{Part, Head, Certificate, Goals, Step, parts_of}
 use Rattle.circ_proof.specs.Fitting.{Fit}
 use Rattle.circ_rules.specs.Due.{due_after}
-use Rattle.circ_nodes.specs.Named.{tree_at}
 use Rattle.circ_nodes.specs.Built.{AreBuilt}
 use Rattle.circ_shared.specs.Patterns.{goal_at, IsPattern}
 use Rattle.circ_shared.specs.declared.patterns.Pattern.{Pattern}
 use Rattle.circ_steps.specs.Derivatives.{AreDerivativesAt}
 use Rattle.circ_steps.specs.declared.derivative.SharedDerivative.{SharedDerivative}
 use Rattle.circ_steps.specs.States.{state_at, IsStateThere}
+use Rattle.circ_entering.specs.Lines.{lines_at, AreLinesAt, LinesStay}
+use Rattle.circ_entering.specs.declared.lines.NamedLines.{NamedLines}
 use Rattle.circ_check.specs.Checking.{Checking, TakesPart, StandFor, with_one, with_failure, with_derived}
 use Rattle.circ_check.specs.Deciding.{plain_list}
 use Rattle.circ_check.specs.declared.checker.Checker.{Checker}
@@ -34,7 +35,7 @@ IsSpent k = k.is_spent ≡ true
 -- what it has taken, with the terms of its numbers
 abbrev pub checking_of : Checker → Checking
 checking_of k = record {
-  table = map (tree_at k.nodes) k.table.items;
+  table = lines_at k.nodes k.lines;
   places = k.gamma;
   due = due_after k.theory.now k.gamma k.due;
   before = take k.earlier (map (goal_at k.nodes) k.state.hyps.items);
@@ -45,9 +46,9 @@ checking_of k = record {
   derived = derived_of k;
 }
 
--- What a block that ends leaves stands among these terms: the table, the hypotheses of earlier blocks, and the block's own goals.
-pub record StaysIn (nodes : List Tree) (ns : List ℕ) (hyps goals : List Pattern) : Type 0 where
-  pub table : AllByRecursion (λ n. n < length nodes) ns
+-- What a block that ends leaves stands among these terms: the lines that are not late, the hypotheses of earlier blocks, and the block's own goals.
+pub record StaysIn (nodes : List Tree) (lines : NamedLines) (hyps goals : List Pattern) : Type 0 where
+  pub lines_stay : LinesStay nodes lines
   pub earlier : AllByRecursion (IsPattern nodes) hyps
   pub own : AllByRecursion (IsPattern nodes) goals
 
@@ -63,7 +64,8 @@ pub record IsSound (th : Theory) (k : Checker) : Type 0 where
   pub unspent : k.is_spent ≡ false
   pub within : k.earlier ≤ length k.state.hyps.items
   pub base : k.base ≤ length k.nodes
-  pub stays : StaysIn (take k.base k.nodes) k.table.items (take k.earlier k.state.hyps.items) k.own.items
+  pub lines : AreLinesAt k.nodes k.lines
+  pub stays : StaysIn (take k.base k.nodes) k.lines (take k.earlier k.state.hyps.items) k.own.items
   pub state : IsStateThere k.nodes k.state
   pub built : AreBuilt k.nodes k.terms
   pub sorted : IsSortedState th (state_at k.nodes k.state)

@@ -12,11 +12,13 @@ ghost use Rattle.circ_proof.specs.Parts.{Part as PlainPart, parts_of};
 ghost use Rattle.circ_proof.specs.Parts.{Head, Certificate, Goals, Step as StepPart};
 ghost use Rattle.circ_proof.specs.Accepted.{Derives, FirstFail};
 ghost use Rattle.circ_proof.specs.Goals.{AreSortedGoals};
+ghost use Rattle.circ_theory.specs.Rewriting.{named};
 ghost use Rattle.circ_proof.specs.Plain.{plain_links};
+ghost use Rattle.circ_proof.specs.Link.{resolved_links};
+ghost use Rattle.circ_proof.specs.Rules.{map_step};
 ghost use Rattle.circ_proof.specs.PlainProof.{plain_step, plain_names};
 ghost use Rattle.circ_table.specs.Part.{plain_part};
-ghost use Rattle.circ_nodes.specs.Named.{tree_at};
-ghost use Rattle.circ_shared.specs.Patterns.{goal_at};
+ghost use Rattle.circ_entering.specs.Lines.{numbered_at, lines_at, AreLinesAt, LinesStay};
 ghost use Rattle.circ_check.specs.Deciding.{plain_list, Finds, FoundBehave, DerivedBehave};
 ghost use Rattle.circ_check.specs.Checking.{with_derived, goals_in};
 ghost use Rattle.circ_check.specs.Naming.{AreNamedGoals};
@@ -31,12 +33,13 @@ use crate::making::made_by;
 use crate::naming::put_goals;
 use crate::tally::Tally;
 use circ_certificates::certify_next;
+use circ_entering::NamedLines;
 use circ_nodes::{Nodes, Terms};
 use circ_proof::{GoalNames, Link, Step};
 use circ_rules::Due;
 use circ_shared::Pattern;
 use circ_special::Gamma;
-use circ_steps::{Rules, SharedDerivative, SharedState, derivatives, equations, table_numbers};
+use circ_steps::{Rules, SharedDerivative, SharedState, derivatives, equations};
 use circ_table::{Part, Table};
 use circ_theory::{Goal, Theory};
 use std::alloc::{AllocError, Global};
@@ -50,10 +53,10 @@ pub struct Checker<'a> {
     theory: &'a Theory,
     // The terms that have numbers, those of the block under way last.
     nodes: Nodes,
-    // The theory's equations and derivatives, and the table's terms, by number.
+    // The theory's equations and derivatives, and the table's lines, by number.
     equations: Vec<Pattern>,
     derivatives: Vec<SharedDerivative>,
-    table: Vec<u32>,
+    lines: NamedLines,
     gamma: Gamma,
     due: Due,
     state: SharedState,
@@ -86,7 +89,7 @@ impl<'a> Checker<'a> {
             nodes: Nodes::new(alloc),
             equations: Vec::new(alloc),
             derivatives: Vec::new(alloc),
-            table: Vec::new(alloc),
+            lines: NamedLines::empty(alloc),
             gamma: Gamma::empty(alloc),
             due: Due::all(),
             state: no_state(alloc),
@@ -163,7 +166,7 @@ impl<'a> Checker<'a> {
         ensures kept { OnErr result (IsAsBefore self.old self.new) }
     {
         match part {
-            Part::Head { table, gamma } => self.begin(&table, gamma),
+            Part::Head { table, gamma } => self.begin(table, gamma),
             Part::Certificate { links } => self.certify(links.as_slice()),
             Part::Goals { names, .. } => self.begin_block(names.as_slice()),
             Part::Step { step } => self.take_step(&step),
@@ -171,9 +174,9 @@ impl<'a> Checker<'a> {
     }
 
     // The table and the special set.
-    fn begin(&mut self, table: &Table, gamma: Gamma) -> Result<(), AllocError>
+    fn begin(&mut self, table: Table, gamma: Gamma) -> Result<(), AllocError>
         requires { IsSound self.old.theory.now self.old }
-        ensures took { OnOk result (Took self.old.theory.now (Head table.now gamma)
+        ensures took { OnOk result (Took self.old.theory.now (Head table gamma)
             self.old self.new) }
         ensures kept { OnErr result (IsAsBefore self.old self.new) }
     {
@@ -185,25 +188,24 @@ impl<'a> Checker<'a> {
         Ok(())
     }
 
-    // The theory and the table get numbers.
-    fn enter(&mut self, table: &Table) -> Result<(), AllocError>
+    // The theory gets numbers, and the first line of the table.
+    fn enter(&mut self, table: Table) -> Result<(), AllocError>
         ensures grows { Grows self.old.nodes self.new.nodes }
         ensures knows { OnOk result (KnowsTheory self.old.theory.now self.new.nodes
             self.new.equations.items self.new.derivatives.items) }
-        ensures there { OnOk result
-            (AllByRecursion (λ n. n < length self.new.nodes) self.new.table.items) }
-        ensures table { OnOk result (map (tree_at self.new.nodes) self.new.table.items
-            ≡ table.now) }
+        ensures lines { OnOk result (AreLinesAt self.new.nodes self.new.lines) }
+        ensures stay { OnOk result (LinesStay self.new.nodes self.new.lines) }
+        ensures table { OnOk result (lines_at self.new.nodes self.new.lines ≡ table) }
         ensures others { self.new ≡ record self.old {
           nodes = self.new.nodes;
           equations = self.new.equations;
           derivatives = self.new.derivatives;
-          table = self.new.table;
+          lines = self.new.lines;
         } }
     {
         self.equations = equations(self.alloc, self.theory, &mut self.nodes)?;
         self.derivatives = derivatives(self.alloc, self.theory, &mut self.nodes)?;
-        self.table = table_numbers(self.alloc, &mut self.nodes, table)?;
+        self.lines = NamedLines::of_table(self.alloc, &mut self.nodes, table)?;
         Ok(())
     }
 
@@ -217,13 +219,30 @@ impl<'a> Checker<'a> {
             (Certificate (plain_links links.now)) self.old self.new) }
         ensures kept { OnErr result (IsAsBefore self.old self.new) }
     {
+        self.lines.enter_links(&mut self.nodes, links)?;
+        self.certify_entered(links)
+    }
+
+    // The same where the lines are entered that the links name.
+    fn certify_entered(&mut self, links: &[Link]) -> Result<(), AllocError>
+        requires ready { IsPartReady self.old.theory.now (checking_of self.old)
+            (Certificate (plain_links links.now)) }
+        requires begun { self.old.is_begun ≡ true }
+        requires sound { IsSound self.old.theory.now self.old }
+        requires named { resolved_links (numbered_at self.old.nodes self.old.lines)
+            (plain_links links.now)
+            ≡ resolved_links (lines_at self.old.nodes self.old.lines) (plain_links links.now) }
+        ensures took { OnOk result (Took self.old.theory.now
+            (Certificate (plain_links links.now)) self.old self.new) }
+        ensures kept { OnErr result (IsAsBefore self.old self.new) }
+    {
         let rules = Rules {
             alloc: self.alloc,
             theory: self.theory,
             equations: self.equations.as_slice(),
             derivatives: self.derivatives.as_slice(),
             gamma: &self.gamma,
-            table: self.table.as_slice(),
+            table: self.lines.numbers(),
         };
         let holds = certify_next(&rules, &mut self.nodes, &mut self.due, links)?;
         self.tally = self.tally.counted(holds);
@@ -246,10 +265,11 @@ impl<'a> Checker<'a> {
             return begin_list(self.alloc, &mut self.derived);
         }
         self.end_block()?;
+        self.lines.begin_block(&mut self.nodes, names)?;
         put_goals(
             self.alloc,
             &mut self.nodes,
-            self.table.as_slice(),
+            self.lines.numbers(),
             names,
             &mut self.state.goals,
             &mut self.own,
@@ -298,6 +318,24 @@ impl<'a> Checker<'a> {
             (StepPart (plain_step step.now)) self.old self.new) }
         ensures kept { OnErr result (IsAsBefore self.old self.new) }
     {
+        self.lines.enter_step(&mut self.nodes, step)?;
+        self.advance_entered(step)
+    }
+
+    // The same where the lines are entered that the step names.
+    fn advance_entered(&mut self, step: &Step) -> Result<(), AllocError>
+        requires going { self.old.is_stopped ≡ false }
+        requires ready { IsPartReady self.old.theory.now (checking_of self.old)
+            (StepPart (plain_step step.now)) }
+        requires begun { self.old.is_begun ≡ true }
+        requires sound { IsSound self.old.theory.now self.old }
+        requires named { map_step (named (numbered_at self.old.nodes self.old.lines))
+            (plain_step step.now)
+            ≡ map_step (named (lines_at self.old.nodes self.old.lines)) (plain_step step.now) }
+        ensures took { OnOk result (Took self.old.theory.now
+            (StepPart (plain_step step.now)) self.old self.new) }
+        ensures kept { OnErr result (IsAsBefore self.old self.new) }
+    {
         let made = made_by(
             self.alloc,
             &self.nodes,
@@ -311,7 +349,7 @@ impl<'a> Checker<'a> {
             equations: self.equations.as_slice(),
             derivatives: self.derivatives.as_slice(),
             gamma: &self.gamma,
-            table: self.table.as_slice(),
+            table: self.lines.numbers(),
         };
         let holds = rules.apply(&mut self.nodes, &mut self.state, step)?;
         self.note_step(holds, made)

@@ -8,13 +8,13 @@ ghost use Rattle.circ_proof.specs.Parts.{Part, Head, parts_of};
 ghost use Rattle.circ_proof.specs.Parts.{certificate_parts, step_parts, block_parts};
 ghost use Rattle.circ_proof.specs.PlainProof.{plain_proof, plain_steps, plain_certificates};
 ghost use Rattle.circ_proof.specs.PlainProof.{plain_block};
-ghost use Rattle.circ_nodes.specs.Named.{tree_at};
+ghost use Rattle.circ_entering.specs.Lines.{lines_at, AreLinesAt, LinesStay};
 ghost use Rattle.circ_check.specs.Deciding.{plain_list};
 ghost use Rattle.circ_check.specs.Watching.{Stands, IsSound, Took, KnowsTheory, HasLeft};
 ghost use Rattle.circ_check.specs.Watching.{derived_of};
 
 use crate::checker::Checker;
-use circ_entering::enter_terms;
+use circ_entering::{NamedLines, enter_terms};
 use circ_proof::{Proof, Step};
 use circ_rules::Due;
 use circ_special::Gamma;
@@ -39,8 +39,8 @@ impl Checker<'_> {
         Ok(())
     }
 
-    /// The same by its table's lines. Costs a look-up for each of them and for each argument in it,
-    /// however large the terms are, and what the parts cost.
+    /// The same by its table's lines. Costs two look-ups at most for each of them that is named and
+    /// for each argument in it, however large the terms are, and what the parts cost.
     pub(crate) fn take_by_table(&mut self, proof: &Proof, table: &Table) -> Result<(), AllocError>
         requires table { table.now ≡ proof.now.table.items }
         requires fits { ProofFor self.old.theory.now (plain_proof proof.now) }
@@ -49,8 +49,9 @@ impl Checker<'_> {
             (Stands self.old.theory.now (parts_of (plain_proof proof.now)) self.new) }
     {
         self.theory.known();
+        let shared = table.share()?;
         let gamma = self.special_set(proof)?;
-        self.begin(table, gamma)?;
+        self.begin(shared, gamma)?;
         self.take_behind_head(proof)?;
         Ok(())
     }
@@ -96,20 +97,21 @@ impl Checker<'_> {
         ensures grows { Grows self.old.nodes self.new.nodes }
         ensures knows { OnOk result (KnowsTheory self.old.theory.now self.new.nodes
             self.new.equations.items self.new.derivatives.items) }
-        ensures there { OnOk result
-            (AllByRecursion (λ n. n < length self.new.nodes) self.new.table.items) }
-        ensures table { OnOk result (map (tree_at self.new.nodes) self.new.table.items
+        ensures lines { OnOk result (AreLinesAt self.new.nodes self.new.lines) }
+        ensures stay { OnOk result (LinesStay self.new.nodes self.new.lines) }
+        ensures table { OnOk result (lines_at self.new.nodes self.new.lines
             ≡ proof.now.table.items) }
         ensures others { self.new ≡ record self.old {
           nodes = self.new.nodes;
           equations = self.new.equations;
           derivatives = self.new.derivatives;
-          table = self.new.table;
+          lines = self.new.lines;
         } }
     {
         self.equations = equations(self.alloc, self.theory, &mut self.nodes)?;
         self.derivatives = derivatives(self.alloc, self.theory, &mut self.nodes)?;
-        self.table = enter_terms(self.alloc, &mut self.nodes, proof.table.as_slice())?;
+        let numbers = enter_terms(self.alloc, &mut self.nodes, proof.table.as_slice())?;
+        self.lines = NamedLines::of_numbers(self.alloc, numbers);
         Ok(())
     }
 

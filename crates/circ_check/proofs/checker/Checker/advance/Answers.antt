@@ -1,32 +1,43 @@
-use Rattle.std.proofs.Common.{refl}
+use Rattle.circ_proof.specs.Parts.{Step}
 use Rattle.circ_proof.specs.PlainProof.{plain_step}
-use Rattle.circ_check.specs.Checking.{goals_in}
-use Rattle.circ_check.proofs.Numbered.{rules_there, step_in_table}
-use Rattle.circ_check.proofs.Watching.{on_ok, step_noted}
+use Rattle.circ_check.proofs.Numbered.{step_in_table, entered_sound, entered_ready, entered_took, entered_kept}
+use Rattle.circ_check.proofs.Watching.{on_ok, on_err_to}
 use Rattle.circ_check.proofs.checker.Checker.advance.Goals as goal
 
-pub made_by-requires-clause-there : goal.made_by-requires-clause-there
-made_by-requires-clause-there c = c.requires.sound.state.goals
+pub enter_step-requires-clause-lines : goal.enter_step-requires-clause-lines
+enter_step-requires-clause-lines c = c.requires.sound.lines
 
-pub apply-requires-clause-rules : goal.apply-requires-clause-rules
-apply-requires-clause-rules c =
+pub enter_step-requires-clause-in_table : goal.enter_step-requires-clause-in_table
+enter_step-requires-clause-in_table c =
     let k = c.args.self.now in
-    rules_there k.theory.now k c.requires.sound c.requires.begun _ refl c.as_slice.ensures.value c.as_slice-2.ensures.value c.as_slice-3.ensures.value
+    step_in_table k.nodes k.lines c.requires.sound.lines (plain_step c.args.step.now) c.requires.ready.part.1
 
-pub apply-requires-clause-table_sorted : goal.apply-requires-clause-table_sorted
-apply-requires-clause-table_sorted c = rw c.as_slice-3.ensures.value c.requires.ready.sorted
-
-pub apply-requires-clause-in_table : goal.apply-requires-clause-in_table
-apply-requires-clause-in_table c =
+pub advance_entered-requires-clause-ready : goal.advance_entered-requires-clause-ready
+advance_entered-requires-clause-ready c =
     let k = c.args.self.now in
-    rw c.as_slice-3.ensures.value (step_in_table k.nodes k.table.items (plain_step c.args.step.now) c.requires.ready.part.1)
+    entered_ready k.theory.now k c.requires.sound c.enter_step.new.nodes c.enter_step.ensures.grows c.enter_step.new.self c.in_ok-enter_step.ensures.entered
+    (Step (plain_step c.args.step.now)) c.requires.ready
+
+pub advance_entered-requires-clause-sound : goal.advance_entered-requires-clause-sound
+advance_entered-requires-clause-sound c =
+    let k = c.args.self.now in
+    entered_sound k.theory.now k c.requires.sound c.enter_step.new.nodes c.enter_step.ensures.grows c.enter_step.new.self c.in_ok-enter_step.ensures.entered
+
+pub advance_entered-requires-clause-named : goal.advance_entered-requires-clause-named
+advance_entered-requires-clause-named c = c.in_ok-enter_step.ensures.named
 
 pub returns-clause-took : goal.returns-clause-took
 returns-clause-took c =
     let k = c.args.self.now in
-    let applies = rw c.as_slice-3.ensures.value at c.in_ok-holds.ensures.exact in
-    on_ok c.note_step.result
-    (step_noted k c.requires.sound c.requires.begun c.requires.going c.apply.new.nodes c.made_by.new.terms c.apply.new.state c.apply.ensures.grows
-    c.made_by.ensures.built c.apply.ensures.state c.apply.ensures.sorted c.in_ok-holds.ensures.hyps c.note_step.new.self (plain_step c.args.step.now)
-    c.in_ok-holds.holds (goals_in c.in_ok-made.made) c.in_ok-made.ensures.made applies)
-    c.note_step.ensures.noted
+    on_ok c.advance_entered.result
+    (entered_took k.theory.now k c.requires.sound c.enter_step.new.nodes c.enter_step.ensures.grows c.enter_step.new.self
+    c.in_ok-enter_step.ensures.entered (Step (plain_step c.args.step.now)) c.advance_entered.new.self)
+    c.advance_entered.ensures.took
+
+pub returns-clause-kept : goal.returns-clause-kept
+returns-clause-kept c =
+    let k = c.args.self.now in
+    on_err_to c.advance_entered.result
+    (entered_kept k.theory.now k c.requires.sound c.enter_step.new.nodes c.enter_step.ensures.grows c.enter_step.new.self
+    c.in_ok-enter_step.ensures.entered c.advance_entered.new.self)
+    c.advance_entered.ensures.kept

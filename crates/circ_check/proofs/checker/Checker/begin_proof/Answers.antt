@@ -17,8 +17,8 @@ returns c =
     λ x. Took k.theory.now (Head p.table.items gamma) k
     (record x { gamma = gamma; due = c.all-self.result; base = c.len-self.result; is_begun = true }) in
     let taken = subst P (sym c.enter_proof.ensures.others)
-    (head_taken k e.nodes e.equations e.derivatives e.table p.table.items gamma c.all-self.result c.len-self.result c.requires.sound
-    c.enter_proof.ensures.grows r.knows r.there r.table (c.all-self.ensures k.theory.now gamma) c.len-self.ensures) in
+    (head_taken k e.nodes e.equations e.derivatives e.lines p.table.items gamma c.all-self.result c.len-self.result c.requires.sound
+    c.enter_proof.ensures.grows r.knows r.lines r.stay r.table (c.all-self.ensures k.theory.now gamma) c.len-self.ensures) in
     let Q : List Place → Type 0 =
     λ gs. Took k.theory.now (Head p.table.items gs) k
     (record c.enter_proof.new.self { gamma = gamma; due = c.all-self.result; base = c.len-self.result; is_begun = true }) in
