@@ -2,9 +2,11 @@
 ghost use Rattle.std.specs.Prelude.{◌≡◌, IfOk, codes};
 ghost use Rattle.std.specs.Option.{option_map};
 ghost use Rattle.circ_proof.specs.Plain.{plain_link};
-ghost use Rattle.circ_line.specs.Front.{rest_after};
+ghost use Rattle.circ_line.specs.Front.{rest_after, after_or};
 ghost use Rattle.circ_line.specs.Read.{link_of, line_of, application_of, short_line, head_of};
-ghost use Rattle.circ_line.specs.Read.{frame_lines, first_of, word_line};
+ghost use Rattle.circ_line.specs.Read.{frame_lines, first_of, word_line, pair_of, number_of};
+ghost use Rattle.circ_line.specs.Read.{to_variable, to_goal, to_given, to_place, to_split};
+ghost use Rattle.circ_line.specs.Line.{cases_line};
 ghost use Rattle.circ_line.specs.Plain.{plain_line, ReadsLine};
 
 use crate::line::{Line, TableLine};
@@ -78,29 +80,81 @@ fn short_line(bytes: &[u8]) -> Option<Line>
     ensures { option_map plain_line result ≡ short_line bytes.now }
 {
     if let Some(rest) = after_text(bytes, b"v") {
-        return pair_of(rest).map(|(number, sort)| Line::Table {
-            line: TableLine::Variable { number, sort },
-        });
+        return variable_of(rest);
     }
     if let Some(rest) = after_text(bytes, b"goal") {
-        return pair_of(rest).map(|(left, right)| Line::Goal { left, right });
+        return goal_of(rest);
     }
     if let Some(rest) = after_text(bytes, b"given") {
-        return pair_of(rest).map(|(left, right)| Line::Given { left, right });
+        return given_of(rest);
     }
     if let Some(rest) = after_text(bytes, b"place") {
-        return pair_of(rest).map(|(op, arg)| Line::Place { op, arg });
+        return place_of(rest);
     }
+    rare_line(bytes)
+}
+
+/// A short line of the other kinds.
+fn rare_line(bytes: &[u8]) -> Option<Line>
+    ensures { option_map plain_line result ≡
+        after_or (rest_after (codes "split") bytes.now) (λ r. option_map to_split (pair_of r))
+        (after_or (rest_after (codes "cases") bytes.now) (λ r. option_map cases_line (number_of r))
+        (after_or (rest_after (codes "circproof") bytes.now) head_of (word_line bytes.now))) }
+{
     if let Some(rest) = after_text(bytes, b"split") {
-        return pair_of(rest).map(|(term, count)| Line::Split { term, count });
+        return split_of(rest);
     }
     if let Some(rest) = after_text(bytes, b"cases") {
-        return number_of(rest).map(|term| Line::Cases { term });
+        return cases_of(rest);
     }
-    if let Some(rest) = after_text(bytes, b"circproof") {
-        return head_of(rest);
+    match after_text(bytes, b"circproof") {
+        Some(rest) => head_of(rest),
+        None => word_line(bytes),
     }
-    word_line(bytes)
+}
+
+fn variable_of(bytes: &[u8]) -> Option<Line>
+    ensures { option_map plain_line result ≡ option_map to_variable (pair_of bytes.now) }
+{
+    let (number, sort) = pair_of(bytes)?;
+    Some(Line::Table {
+        line: TableLine::Variable { number, sort },
+    })
+}
+
+fn goal_of(bytes: &[u8]) -> Option<Line>
+    ensures { option_map plain_line result ≡ option_map to_goal (pair_of bytes.now) }
+{
+    let (left, right) = pair_of(bytes)?;
+    Some(Line::Goal { left, right })
+}
+
+fn given_of(bytes: &[u8]) -> Option<Line>
+    ensures { option_map plain_line result ≡ option_map to_given (pair_of bytes.now) }
+{
+    let (left, right) = pair_of(bytes)?;
+    Some(Line::Given { left, right })
+}
+
+fn place_of(bytes: &[u8]) -> Option<Line>
+    ensures { option_map plain_line result ≡ option_map to_place (pair_of bytes.now) }
+{
+    let (op, arg) = pair_of(bytes)?;
+    Some(Line::Place { op, arg })
+}
+
+fn split_of(bytes: &[u8]) -> Option<Line>
+    ensures { option_map plain_line result ≡ option_map to_split (pair_of bytes.now) }
+{
+    let (term, count) = pair_of(bytes)?;
+    Some(Line::Split { term, count })
+}
+
+fn cases_of(bytes: &[u8]) -> Option<Line>
+    ensures { option_map plain_line result ≡ option_map cases_line (number_of bytes.now) }
+{
+    let term = number_of(bytes)?;
+    Some(Line::Cases { term })
 }
 
 /// The first line, by its version.
