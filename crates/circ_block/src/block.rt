@@ -40,14 +40,20 @@ impl<'a> BlockRules<'a> {
     {
         let rules = theory_rules(alloc, theory)?;
         let (goals, aside) = goal_reducers(alloc, theory, rules.as_slice())?;
-        let cases = Reducer::new(alloc, theory, rules)?;
-        Ok(BlockRules {
-            goals,
-            aside,
-            cases,
-            lemmas: Lemmas::new(alloc),
-            count: 0,
-        })
+        match Reducer::new(alloc, theory, rules) {
+            Ok(cases) => Ok(BlockRules {
+                goals,
+                aside,
+                cases,
+                lemmas: Lemmas::new(alloc),
+                count: 0,
+            }),
+            Err(fault) => {
+                drop(goals);
+                drop(aside);
+                Err(fault)
+            }
+        }
     }
 
     /// These are the conditions of the goal in hand. What is known of terms is kept where the goal

@@ -95,8 +95,13 @@ pub(crate) fn goal_reducers<'a>(
     ensures other { IfOk result (λ two. IsReducerOf theory.now rules.now two.1) }
 {
     let first = GoalReducer::new(alloc, theory, rules)?;
-    let other = GoalReducer::new(alloc, theory, rules)?;
-    Ok((first, other))
+    match GoalReducer::new(alloc, theory, rules) {
+        Ok(other) => Ok((first, other)),
+        Err(fault) => {
+            drop(first);
+            Err(fault)
+        }
+    }
 }
 
 // The goal goes behind the rules.
