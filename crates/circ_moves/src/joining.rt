@@ -195,6 +195,7 @@ impl ContentJoining<'_> {
         ensures same { reducer.new ≡ reducer.old }
     {
         if !leaves_rests(&apart) {
+            drop(apart);
             return Ok(false);
         }
         let rests = match rests_of(self.alloc, op, decl.result, apart) {
@@ -212,11 +213,29 @@ impl ContentJoining<'_> {
         );
         let _last = path.pop();
         match found {
-            Err(fault) => Err(fault),
-            Ok(None) => Ok(false),
+            Err(fault) => {
+                drop(rests);
+                Err(fault)
+            }
+            Ok(None) => {
+                drop(rests);
+                Ok(false)
+            }
             Ok(Some(one)) => {
                 let path = path.as_slice();
-                push_over_rests(self.alloc, op, decl.result, path, a, b, rests, one, moves)?;
+                let pushed = push_over_rests(
+                    self.alloc,
+                    op,
+                    decl.result,
+                    path,
+                    a,
+                    b,
+                    &rests,
+                    one,
+                    moves,
+                );
+                drop(rests);
+                pushed?;
                 Ok(true)
             }
         }

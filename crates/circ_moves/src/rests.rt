@@ -92,20 +92,61 @@ pub(crate) fn push_over_rests(
     path: &[u16],
     a: &Term,
     b: &Term,
-    rests: Rests,
+    rests: &Rests,
     hypothesis: HypothesisUse,
     moves: &mut Vec<Move>,
 ) -> Result<(), AllocError>
     ensures { OnOk result (plain_moves moves.new.items ≡ plain_moves moves.old.items
-        ++ regrouped op path.now a.now (join op sort (rests.left ∷ rests.both.items))
+        ++ regrouped op path.now a.now (join op sort (rests.now.left ∷ rests.now.both.items))
         ++ Using (plain_use hypothesis)
-        ∷ regrouped op path.now (join op sort (rests.right ∷ rests.both.items)) b.now) }
+        ∷ regrouped op path.now (join op sort (rests.now.right ∷ rests.now.both.items)) b.now) }
 {
-    let Rests { left, right, both } = rests;
-    let first = regrouped(alloc, op, sort, path, a, &left, both.as_slice())?;
-    let last = regrouped_back(alloc, op, sort, path, &right, both.as_slice(), b)?;
-    push_some(moves, first)?;
+    match push_regrouped(alloc, op, sort, path, a, rests, moves) {
+        Ok(()) => {}
+        Err(fault) => {
+            drop(hypothesis);
+            return Err(fault);
+        }
+    }
     moves.push(Move::Using { hypothesis })?;
+    push_regrouped_back(alloc, op, sort, path, rests, b, moves)
+}
+
+// Appends the move by which the term becomes its rest and what was set aside.
+fn push_regrouped(
+    alloc: Global,
+    op: u32,
+    sort: u32,
+    path: &[u16],
+    term: &Term,
+    rests: &Rests,
+    moves: &mut Vec<Move>,
+) -> Result<(), AllocError>
+    ensures { OnOk result (plain_moves moves.new.items ≡ plain_moves moves.old.items
+        ++ regrouped op path.now term.now
+        (join op sort (rests.now.left ∷ rests.now.both.items))) }
+{
+    let both = rests.both.as_slice();
+    let first = regrouped(alloc, op, sort, path, term, &rests.left, both)?;
+    push_some(moves, first)
+}
+
+// Appends the move by which the rest and what was set aside become the term.
+fn push_regrouped_back(
+    alloc: Global,
+    op: u32,
+    sort: u32,
+    path: &[u16],
+    rests: &Rests,
+    term: &Term,
+    moves: &mut Vec<Move>,
+) -> Result<(), AllocError>
+    ensures { OnOk result (plain_moves moves.new.items ≡ plain_moves moves.old.items
+        ++ regrouped op path.now
+        (join op sort (rests.now.right ∷ rests.now.both.items)) term.now) }
+{
+    let both = rests.both.as_slice();
+    let last = regrouped_back(alloc, op, sort, path, &rests.right, both, term)?;
     push_some(moves, last)
 }
 
