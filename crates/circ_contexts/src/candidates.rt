@@ -47,9 +47,28 @@ impl Means<'_> {
         ensures same { reducer.new ≡ reducer.old }
     {
         let observers = Observers::new(self.alloc, self.theory)?;
+        let found = self.candidates_by(reducer, &observers, places);
+        drop(observers);
+        found
+    }
+
+    // The same by the observers of the theory.
+    fn candidates_by(
+        &self,
+        reducer: &mut Reducer<'_>,
+        observers: &Observers<'_>,
+        places: &[Place],
+    ) -> Result<Vec<Candidate>, AllocError>
+        requires reducer { reducer.old ≡ by_theory self.now.theory.now }
+        requires observers { observers.now ≡ self.now.theory.now }
+        requires places { AllByRecursion (IsPlace self.now.theory.now) places.now }
+        ensures exact { IfOk result (λ v. AreCandidates self.now.theory.now self.now.budget
+            places.now v.items) }
+        ensures same { reducer.new ≡ reducer.old }
+    {
         let mut found = Vec::new(self.alloc);
         for place in places {
-            match self.candidate(reducer, &observers, *place)? {
+            match self.candidate(reducer, observers, *place)? {
                 Some(candidate) => found.push(candidate)?,
                 None => {}
             }

@@ -32,9 +32,9 @@ pub fn special_contexts(
         budget,
     };
     let mut reducer = Reducer::new(alloc, theory, theory_rules(alloc, theory)?)?;
-    let gamma = means.greatest_set(&mut reducer)?;
-    let traces = means.traces(&mut reducer, gamma.places())?;
-    Ok((gamma, traces))
+    let found = means.set_with_traces(&mut reducer);
+    drop(reducer);
+    found
 }
 
 /// The greatest special set of a theory. Its traces are not made.
@@ -48,10 +48,26 @@ pub fn special_places(alloc: Global, theory: &Theory, budget: u64) -> Result<Gam
         budget,
     };
     let mut reducer = Reducer::new(alloc, theory, theory_rules(alloc, theory)?)?;
-    means.greatest_set(&mut reducer)
+    let found = means.greatest_set(&mut reducer);
+    drop(reducer);
+    found
 }
 
 impl Means<'_> {
+    // The greatest set of the theory, with the traces of its certificates.
+    fn set_with_traces(
+        &self,
+        reducer: &mut Reducer<'_>,
+    ) -> Result<(Gamma, Vec<Vec<Trace>>), AllocError>
+        requires reducer { reducer.old ≡ by_theory self.now.theory.now }
+        ensures greatest { IfOk result (λ r. GreatestSpecialSet self.now.theory.now
+            self.now.budget r.0 (plain_lists r.1.items)) }
+    {
+        let gamma = self.greatest_set(reducer)?;
+        let traces = self.traces(reducer, gamma.places())?;
+        Ok((gamma, traces))
+    }
+
     // The greatest set of the theory.
     fn greatest_set(&self, reducer: &mut Reducer<'_>) -> Result<Gamma, AllocError>
         requires reducer { reducer.old ≡ by_theory self.now.theory.now }

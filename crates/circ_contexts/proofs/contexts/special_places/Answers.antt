@@ -11,6 +11,6 @@ returns c =
     let th = c.args.theory.now in
     let b = c.args.budget in
     record {
-      greatest = IfOk-weaker c.greatest_set.result (IsGreatest th b) (λ g. (traces : List (List Traced)) × GreatestSpecialSet th b g traces)
-          (λ g h. greatest_with_traces th b g h) c.greatest_set.ensures.exact;
+      greatest = IfOk-weaker c.greatest_set-found.result (IsGreatest th b) (λ g. (traces : List (List Traced)) × GreatestSpecialSet th b g traces)
+          (λ g h. greatest_with_traces th b g h) c.greatest_set-found.ensures.exact;
     }

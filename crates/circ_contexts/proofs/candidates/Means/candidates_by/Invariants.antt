@@ -1,6 +1,6 @@
 use Rattle.std.proofs.Common.{◌≡◌}
 use Rattle.circ_contexts.proofs.Gathering.{Gathered}
-use Rattle.circ_contexts.proofs.candidates.Means.candidates.Given as goal
+use Rattle.circ_contexts.proofs.candidates.Means.candidates_by.Given as goal
 
 abbrev pub invariant-loop-place : goal.invariant-loop-place
 invariant-loop-place l = record {

@@ -1,4 +1,4 @@
-use Rattle.circ_contexts.proofs.contexts.special_contexts.Goals as goal
+use Rattle.circ_contexts.proofs.candidates.Means.set_with_traces.Goals as goal
 
 pub traces-requires-clause-candidates : goal.traces-requires-clause-candidates
 traces-requires-clause-candidates c = rw c.places.ensures.value c.in_ok-gamma.ensures.exact.candidates

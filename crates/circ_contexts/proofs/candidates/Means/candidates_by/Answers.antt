@@ -1,7 +1,7 @@
 use Rattle.std.proofs.Common.{refl, ◌∙◌, arith}
 use Rattle.circ_contexts.proofs.Gathering.{gather_start, gather_one, gather_none, gather_last}
-use Rattle.circ_contexts.proofs.candidates.Means.candidates.Goals as goal
-use Rattle.circ_contexts.proofs.candidates.Means.candidates.Goals.{in-Some+in_ok-push-in-Some, in-None}
+use Rattle.circ_contexts.proofs.candidates.Means.candidates_by.Goals as goal
+use Rattle.circ_contexts.proofs.candidates.Means.candidates_by.Goals.{in-Some+in_ok-push-in-Some, in-None}
 
 pub loop-place-init : goal.loop-place-init
 loop-place-init c =
@@ -16,7 +16,7 @@ loop-place-preserved c =
     let cs = c.loop-place.found.items in
     record {
       reducer = c.candidate.ensures.same ∙ c.loop-place.invariant.reducer;
-      gathered = elim c.match-branch-3.branch [
+      gathered = elim c.match-branch-2.branch [
         | in-Some+in_ok-push-in-Some w ↦
             rw (w.found-is, w.in_ok-push-in-Some.ensures.items)
             (gather_one th b gs i cs c.loop-place-test.true c.loop-place.invariant.gathered w.in-Some.candidate
