@@ -175,15 +175,22 @@ impl<'a> RulePassing<'a> {
         ensures less { budget.new ≤ budget.old }
     {
         if *budget == 0 {
+            drop(due);
             return Err(RewriteFault::Spent);
         }
         let new = match due.subst.apply(due.new) {
             Ok(new) => new,
-            Err(fault) => return Err(rewrite_fault(fault)),
+            Err(fault) => {
+                drop(due);
+                return Err(rewrite_fault(fault));
+            }
         };
         let whole = match put_at(self.alloc, &swept.whole, due.path.as_slice(), &new) {
             Ok(whole) => whole,
-            Err(fault) => return Err(rewrite_fault(fault)),
+            Err(fault) => {
+                drop(due);
+                return Err(rewrite_fault(fault));
+            }
         };
         swept.uses.push(HypothesisUse {
             number: due.number,

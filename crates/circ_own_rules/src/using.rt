@@ -89,12 +89,19 @@ impl HypothesisRule {
         ensures same { reducer.new ≡ reducer.old }
     {
         if !self.may_take(&subst, term) {
+            drop(subst);
             return Ok(None);
         }
         let conds = self.hypothesis.conds.as_slice();
         let passes = match passes(alloc, reducer, conds, &subst, budget) {
-            Err(fault) => return Err(fault),
-            Ok(None) => return Ok(None),
+            Err(fault) => {
+                drop(subst);
+                return Err(fault);
+            }
+            Ok(None) => {
+                drop(subst);
+                return Ok(None);
+            }
             Ok(Some(passes)) => passes,
         };
         let mut subst = subst;
