@@ -1,5 +1,5 @@
 //! The variables of interned terms.
-ghost use Rattle.std.specs.Prelude.{◌≡◌, ◌<◌, List, length, map, IfOk, OnOk};
+ghost use Rattle.std.specs.Prelude.{◌≡◌, ◌<◌, List, [], length, map, IfOk, OnOk};
 ghost use Rattle.std.specs.List.{AllByRecursion};
 ghost use Rattle.circ_term.specs.Tree.{trees_of};
 ghost use Rattle.circ_term.specs.Growing.{Grows};
@@ -62,13 +62,40 @@ fn variables_of(
 {
     let mut variables = BTreeSet::new(alloc);
     let mut seen = Made::new(alloc);
-    gather(nodes, sides.left, &mut seen, &mut variables)?;
-    gather(nodes, sides.right, &mut seen, &mut variables)?;
-    for pair in conds {
-        gather(nodes, pair.left, &mut seen, &mut variables)?;
-        gather(nodes, pair.right, &mut seen, &mut variables)?;
+    let gathered = gather_goal(nodes, conds, sides, &mut seen, &mut variables);
+    drop(seen);
+    match gathered {
+        Ok(()) => Ok(variables),
+        Err(fault) => {
+            drop(variables);
+            Err(fault)
+        }
     }
-    Ok(variables)
+}
+
+// The same into a set that has none.
+fn gather_goal(
+    nodes: &Nodes,
+    conds: &[Sides],
+    sides: Sides,
+    seen: &mut Made,
+    variables: &mut BTreeSet<Variable>,
+) -> Result<(), AllocError>
+    requires conditions { AreThere nodes.now conds.now }
+    requires sides { IsThere nodes.now sides }
+    requires seen { seen.old.entries ≡ [] }
+    requires none { variables.old.keys ≡ [] }
+    ensures { OnOk result (map variable_of variables.new.keys ≡ sorted (variables_of (goal
+        (pairs_at nodes.now conds.now) (tree_at nodes.now sides.left)
+        (tree_at nodes.now sides.right)))) }
+{
+    gather(nodes, sides.left, seen, variables)?;
+    gather(nodes, sides.right, seen, variables)?;
+    for pair in conds {
+        gather(nodes, pair.left, seen, variables)?;
+        gather(nodes, pair.right, seen, variables)?;
+    }
+    Ok(())
 }
 
 // Adds the variables of the term of a number. What was gone over before is passed by.

@@ -117,3 +117,17 @@ pub instances-returns-clause-interns : goal.instances-returns-clause-interns
 instances-returns-clause-interns t c = λ σ made.
     let at = c.loop-pattern in
     first_all σ c.args.nodes.now c.args.patterns.now at.nodes at.numbers.items at.pattern-index (at.invariant.made σ made).1 (omega (arith, c.loop-pattern-test.false))
+
+-- ---- the table grows
+
+pub instance-returns-clause-grows : goal.instance-returns-clause-grows
+instance-returns-clause-grows t c =
+    grows_more c.args.nodes.now c.instances.new.nodes c.enter.new.nodes c.in-Ok.ensures.grows c.enter.ensures.grows
+
+pub instances-returns-in-Err-clause-grows : goal.instances-returns-in-Err-clause-grows
+instances-returns-in-Err-clause-grows t c =
+    grows_more c.args.nodes.now c.loop-pattern.nodes c.instance.new.nodes c.loop-pattern.invariant.grows c.in-Err.ensures.grows
+
+pub instances-returns-in_err-push-in-Ok-clause-grows : goal.instances-returns-in_err-push-in-Ok-clause-grows
+instances-returns-in_err-push-in-Ok-clause-grows t c =
+    grows_more c.args.nodes.now c.loop-pattern.nodes c.instance.new.nodes c.loop-pattern.invariant.grows c.in-Ok.ensures.grows

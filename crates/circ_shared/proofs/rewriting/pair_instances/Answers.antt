@@ -117,3 +117,29 @@ pub returns-clause-exact : goal.returns-clause-exact
 returns-clause-exact c = λ σ made.
     let at = c.loop-pair in
     instances_all σ c.args.nodes.now c.args.pairs.now at.nodes at.instances.items at.pair-index (at.invariant.made σ made).1 c.loop-pair-test.false
+
+-- ---- the table grows
+
+pub returns-in_err-left-clause-grows : goal.returns-in_err-left-clause-grows
+returns-in_err-left-clause-grows c =
+    grows_more c.args.nodes.now c.loop-pair.nodes c.instance_within.new.nodes c.loop-pair.invariant.grows c.instance_within.ensures.grows
+
+pub returns-in_default-clause-grows : goal.returns-in_default-clause-grows
+returns-in_default-clause-grows c =
+    grows_more c.args.nodes.now c.loop-pair.nodes c.instance_within.new.nodes c.loop-pair.invariant.grows c.in_ok-left.ensures.grows
+
+pub returns-in_err-right-clause-grows : goal.returns-in_err-right-clause-grows
+returns-in_err-right-clause-grows c =
+    grows_more c.args.nodes.now c.instance_within.new.nodes c.instance_within-in-loop-pair.new.nodes (grows_more c.args.nodes.now c.loop-pair.nodes c.instance_within.new.nodes c.loop-pair.invariant.grows c.in_ok-left.ensures.grows) c.instance_within-in-loop-pair.ensures.grows
+
+pub returns-in_default-2-clause-grows : goal.returns-in_default-2-clause-grows
+returns-in_default-2-clause-grows c =
+    grows_more c.args.nodes.now c.instance_within.new.nodes c.instance_within-in-loop-pair.new.nodes (grows_more c.args.nodes.now c.loop-pair.nodes c.instance_within.new.nodes c.loop-pair.invariant.grows c.in_ok-left.ensures.grows) c.in_ok-right.ensures.grows
+
+pub returns-in_err-push-clause-grows : goal.returns-in_err-push-clause-grows
+returns-in_err-push-clause-grows c =
+    grows_more c.args.nodes.now c.instance_within.new.nodes c.instance_within-in-loop-pair.new.nodes (grows_more c.args.nodes.now c.loop-pair.nodes c.instance_within.new.nodes c.loop-pair.invariant.grows c.in_ok-left.ensures.grows) c.in_ok-right.ensures.grows
+
+pub returns-clause-grows : goal.returns-clause-grows
+returns-clause-grows c =
+    c.loop-pair.invariant.grows

@@ -72,3 +72,17 @@ returns-clause-made c = λ σ made.
     let made_first = subst (λ o. IfSome o (λ n. IsMade σ first c.instance_within.new.made.entries)) c.in-Some.is (c.in_ok-from.ensures.made σ made) in
     let made_second = subst (λ o. IfSome o (λ n. IsMade σ second entries)) c.in-Some-2.is (c.in_ok-to.ensures.made σ made_first) in
     if_some_same (IsMade σ c.exchange.new.nodes entries) (made_later σ second c.exchange.new.nodes entries c.exchange.ensures.grows made_second) c.exchange.result
+
+-- ---- the table grows
+
+pub returns-in_err-to-clause-grows : goal.returns-in_err-to-clause-grows
+returns-in_err-to-clause-grows c =
+    grows_more c.args.nodes.now c.instance_within.new.nodes c.instance_within-2.new.nodes c.in_ok-from.ensures.grows c.instance_within-2.ensures.grows
+
+pub returns-in_default-2-clause-grows : goal.returns-in_default-2-clause-grows
+returns-in_default-2-clause-grows c =
+    grows_more c.args.nodes.now c.instance_within.new.nodes c.instance_within-2.new.nodes c.in_ok-from.ensures.grows c.in_ok-to.ensures.grows
+
+pub returns-clause-grows : goal.returns-clause-grows
+returns-clause-grows c =
+    grows_more c.args.nodes.now c.instance_within-2.new.nodes c.exchange.new.nodes (grows_more c.args.nodes.now c.instance_within.new.nodes c.instance_within-2.new.nodes c.in_ok-from.ensures.grows c.in_ok-to.ensures.grows) c.exchange.ensures.grows

@@ -5,6 +5,7 @@ use Rattle.circ_term.specs.Tree.{Tree}
 use Rattle.circ_theory.specs.Theory.{Pair}
 use Rattle.circ_nodes.specs.Named.{tree_at}
 use Rattle.circ_nodes.proofs.Located.{tree_later}
+use Rattle.circ_nodes.proofs.Numbers.{grows_more}
 use Rattle.circ_replay.specs.Rewriting.{GivesExchange, GivesPairs, AreWithin}
 use Rattle.circ_shared.specs.Memo.{IsMade}
 use Rattle.circ_shared.specs.Patterns.{pairs_at}
@@ -48,3 +49,17 @@ returns-clause-exact c = λ σ made.
       two.0,
       (subst P (sym (tree_later first second c.in-Some.term g one.0)) one.1, pairs.0, pairs.1),
     )
+
+-- ---- the table grows
+
+pub returns-in_err-conds-clause-grows : goal.returns-in_err-conds-clause-grows
+returns-in_err-conds-clause-grows c =
+    grows_more c.args.nodes.now c.rewrite.new.nodes c.pair_instances.new.nodes c.in_ok-term.ensures.grows c.pair_instances.ensures.grows
+
+pub returns-in_default-2-clause-grows : goal.returns-in_default-2-clause-grows
+returns-in_default-2-clause-grows c =
+    grows_more c.args.nodes.now c.rewrite.new.nodes c.pair_instances.new.nodes c.in_ok-term.ensures.grows c.in_ok-conds.ensures.grows
+
+pub returns-clause-grows : goal.returns-clause-grows
+returns-clause-grows c =
+    grows_more c.args.nodes.now c.rewrite.new.nodes c.pair_instances.new.nodes c.in_ok-term.ensures.grows c.in_ok-conds.ensures.grows

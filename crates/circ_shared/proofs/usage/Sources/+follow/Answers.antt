@@ -358,3 +358,37 @@ follow_chain-returns-clause-exact t c =
       (term_later first second h c.in-Some.left one.0, two.0),
       record { left = subst P (sym (tree_later first second c.in-Some.left h one.0)) one.1; right = right },
     )
+
+-- ---- the table grows
+
+pub follow-returns-in_err-all_meet-clause-grows : goal.follow-returns-in_err-all_meet-clause-grows
+follow-returns-in_err-all_meet-clause-grows t c =
+    grows_more c.args.nodes.now c.used.new.nodes c.all_meet.new.nodes c.in_ok-made.ensures.grows c.all_meet.ensures.grows
+
+pub follow-returns-then-not-branch-clause-grows : goal.follow-returns-then-not-branch-clause-grows
+follow-returns-then-not-branch-clause-grows t c =
+    grows_more c.args.nodes.now c.used.new.nodes c.all_meet.new.nodes c.in_ok-made.ensures.grows c.in_ok-all_meet.ensures.grows
+
+pub follow-returns-clause-grows : goal.follow-returns-clause-grows
+follow-returns-clause-grows t c =
+    grows_more c.args.nodes.now c.used.new.nodes c.all_meet.new.nodes c.in_ok-made.ensures.grows c.in_ok-all_meet.ensures.grows
+
+pub all_meet-returns-in_err-meets-clause-grows : goal.all_meet-returns-in_err-meets-clause-grows
+all_meet-returns-in_err-meets-clause-grows t c =
+    grows_more c.args.nodes.now c.loop-i.nodes c.meets.new.nodes c.loop-i.invariant.grows c.meets.ensures.grows
+
+pub all_meet-returns-then-not-branch-clause-grows : goal.all_meet-returns-then-not-branch-clause-grows
+all_meet-returns-then-not-branch-clause-grows t c =
+    grows_more c.args.nodes.now c.loop-i.nodes c.meets.new.nodes c.loop-i.invariant.grows c.in_ok-meets.ensures.grows
+
+pub follow_chain-returns-in_err-right-clause-grows : goal.follow_chain-returns-in_err-right-clause-grows
+follow_chain-returns-in_err-right-clause-grows t c =
+    grows_more c.args.nodes.now c.follow_all.new.nodes c.follow_all-2.new.nodes c.in_ok-left.ensures.grows c.follow_all-2.ensures.grows
+
+pub follow_chain-returns-in_default-2-clause-grows : goal.follow_chain-returns-in_default-2-clause-grows
+follow_chain-returns-in_default-2-clause-grows t c =
+    grows_more c.args.nodes.now c.follow_all.new.nodes c.follow_all-2.new.nodes c.in_ok-left.ensures.grows c.in_ok-right.ensures.grows
+
+pub follow_chain-returns-clause-grows : goal.follow_chain-returns-clause-grows
+follow_chain-returns-clause-grows t c =
+    grows_more c.args.nodes.now c.follow_all.new.nodes c.follow_all-2.new.nodes c.in_ok-left.ensures.grows c.in_ok-right.ensures.grows

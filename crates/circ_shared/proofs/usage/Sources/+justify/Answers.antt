@@ -222,3 +222,21 @@ each_justified-loop-i-preserved t c =
           ∙ ap (λ n. take n (old ++ x ∷ [])) (c.len-count.ensures ∙ c.args.assumptions.now.ok.0) ∙ take-append_seam old (x ∷ []);
       rest = (λ h. at.invariant.rest.0 (parts.1 (holds, h)), λ h. (parts.0 (at.invariant.rest.1 h)).1);
     }
+
+-- ---- the table grows
+
+pub is_split-returns-clause-grows : goal.is_split-returns-clause-grows
+is_split-returns-clause-grows t c =
+    grows_more c.args.nodes.now c.follow_chain.new.nodes c.each_justified.new.nodes c.in_ok-sides.ensures.grows c.each_justified.ensures.grows
+
+pub each_justified-returns-in_err-assume-clause-grows : goal.each_justified-returns-in_err-assume-clause-grows
+each_justified-returns-in_err-assume-clause-grows t c =
+    grows_more c.args.nodes.now c.loop-i.nodes c.assume.new.nodes c.loop-i.invariant.grows c.assume.ensures.grows
+
+pub each_justified-returns-in_err-justified-clause-grows : goal.each_justified-returns-in_err-justified-clause-grows
+each_justified-returns-in_err-justified-clause-grows t c =
+    grows_more c.args.nodes.now c.assume.new.nodes c.is_justified.new.nodes (grows_more c.args.nodes.now c.loop-i.nodes c.assume.new.nodes c.loop-i.invariant.grows c.in_ok-assume.ensures.grows) c.is_justified.ensures.grows
+
+pub each_justified-returns-then-not-justified-clause-grows : goal.each_justified-returns-then-not-justified-clause-grows
+each_justified-returns-then-not-justified-clause-grows t c =
+    grows_more c.args.nodes.now c.assume.new.nodes c.is_justified.new.nodes (grows_more c.args.nodes.now c.loop-i.nodes c.assume.new.nodes c.loop-i.invariant.grows c.in_ok-assume.ensures.grows) c.in_ok-justified.ensures.grows

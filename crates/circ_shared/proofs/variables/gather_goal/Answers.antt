@@ -3,13 +3,13 @@ use Rattle.circ_theory.specs.Variables.{seen_in}
 use Rattle.circ_nodes.specs.Named.{tree_at}
 use Rattle.circ_shared.proofs.Meets.{unread, read_again}
 use Rattle.circ_shared.proofs.Seeing.{gathers_none, pairs_first, pairs_next, pairs_last}
-use Rattle.circ_shared.proofs.variables.variables_of.Goals as goal
+use Rattle.circ_shared.proofs.variables.gather_goal.Goals as goal
 
 pub loop-pair-init : goal.loop-pair-init
 loop-pair-init c =
     let nodes = c.args.nodes.now in
     let left = tree_at nodes c.args.sides.left in
-    let none = gathers_none nodes c.new-seen.result.entries c.new-variables.result.keys c.new-seen.ensures.empty c.new-variables.ensures.empty in
+    let none = gathers_none nodes c.args.seen.now.entries c.args.variables.now.keys c.requires.seen c.requires.none in
     let one = c.in_ok-gather.ensures [] none in
     pairs_first nodes (seen_in (tree_at nodes c.args.sides.right) (seen_in left [])) c.args.conds.now c.gather-2.new.seen.entries c.gather-2.new.variables.keys
     (c.in_ok-gather-2.ensures (seen_in left []) one)

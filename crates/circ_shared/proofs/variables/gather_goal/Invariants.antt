@@ -2,7 +2,7 @@ use Rattle.std.proofs.Common.{[]}
 use Rattle.circ_theory.specs.Variables.{seen_in}
 use Rattle.circ_nodes.specs.Named.{tree_at}
 use Rattle.circ_shared.proofs.Seeing.{GathersPairs}
-use Rattle.circ_shared.proofs.variables.variables_of.Given as goal
+use Rattle.circ_shared.proofs.variables.gather_goal.Given as goal
 
 abbrev pub invariant-loop-pair : goal.invariant-loop-pair
 invariant-loop-pair l =
