@@ -38,7 +38,9 @@ pub fn decode_with_table(
     ensures { DecodesWithTable theory.now bytes.now result }
 {
     let mut reader = FileReader::new(alloc, theory);
-    decode_by(alloc, theory, &mut reader, bytes)
+    let decoded = decode_by(alloc, theory, &mut reader, bytes);
+    drop(reader);
+    decoded
 }
 
 // The proof that is read by a reader that was fed nothing.

@@ -26,6 +26,19 @@ pub(crate) fn put_table(alloc: Global, table: &[Term], out: &mut Vec<u8>) -> Res
         (lines_of table_lines (entries_of [] table.now))) }
 {
     let mut numbering = Numbering::new(alloc);
+    let put = put_terms(table, &mut numbering, out);
+    drop(numbering);
+    put
+}
+
+// The same with a numbering of no lines.
+fn put_terms(table: &[Term], numbering: &mut Numbering, out: &mut Vec<u8>) -> Result<(), AllocError>
+    requires entries { AreEntries [] table.now }
+    requires short { length table.now ≤ term_limit }
+    requires none { IsNumbering [] numbering.old }
+    ensures { OnOk result (Writes out.old.items out.new.items
+        (lines_of table_lines (entries_of [] table.now))) }
+{
     for term in table {
         numbering.put(term, out)?;
         numbering.enter(term)?;

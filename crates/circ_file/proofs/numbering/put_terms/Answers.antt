@@ -8,7 +8,7 @@ use Rattle.circ_grammar.specs.FirstBad.{file_text}
 use Rattle.circ_proof_text.specs.TableText.{entries_of}
 use Rattle.circ_file.specs.Numbering.{IsNumbering}
 use Rattle.circ_file.proofs.Numbered.{take_read}
-use Rattle.circ_file.proofs.numbering.put_table.Goals as goal
+use Rattle.circ_file.proofs.numbering.put_terms.Goals as goal
 
 pub put-requires : goal.put-requires
 put-requires c =

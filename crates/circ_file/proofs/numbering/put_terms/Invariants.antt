@@ -5,7 +5,7 @@ use Rattle.circ_grammar.specs.Grammar.{lines_of, table_lines}
 use Rattle.circ_grammar.specs.FirstBad.{file_text}
 use Rattle.circ_proof_text.specs.TableText.{entries_of}
 use Rattle.circ_file.specs.Numbering.{IsNumbering}
-use Rattle.circ_file.proofs.numbering.put_table.Given as goal
+use Rattle.circ_file.proofs.numbering.put_terms.Given as goal
 
 abbrev pub invariant-loop-term : goal.invariant-loop-term
 invariant-loop-term l =
