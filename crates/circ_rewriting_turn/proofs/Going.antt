@@ -1,5 +1,7 @@
 -- Turns with hypotheses as rules, in steps.
 use Rattle.std.proofs.Common.{◌≡◌, ℕ, ◌<◌, Bool, true, false, if◌then◌else◌, List, [], ◌∷◌, ◌++◌, map, drop, length, Option, Some, None, Result, Ok, Err, refl, ap, sym, subst, ◌∙◌, arith}
+use Rattle.std.specs.Prelude.{IfOk}
+use Rattle.std.specs.Bool.{OnTrue}
 use Rattle.circ_term.specs.Tree.{Tree}
 use Rattle.circ_theory.specs.Theory.{Theory, Pair, goal}
 use Rattle.circ_theory.specs.Goal.{Goal}
@@ -8,7 +10,7 @@ use Rattle.circ_proof.specs.Plain.{ChainOf, WhyOf, Same_why}
 use Rattle.circ_conditional_norm.specs.Work.{Work, Made}
 use Rattle.circ_plain_search.specs.BlockRules.{block_rules}
 use Rattle.circ_plain_search.specs.Joining.{and_then}
-use Rattle.circ_plain_search.specs.Search.{Limits, Standing, Ending, Sides, chain_with, chained, has_links, or_end, done_turn}
+use Rattle.circ_plain_search.specs.Search.{Limits, Standing, Ending, All_done, Sides, chain_with, chained, has_links, or_end, done_turn}
 use Rattle.circ_conditional_search.specs.Joining.{Swept}
 use Rattle.circ_conditional_search.specs.Search.{Manner, condition_normaliser, normal_sides_trying, with_sides_of, goal_reduced, open_turn_trying, pass_chain, passed_sides, worked}
 use Rattle.circ_content_join.specs.Joining.{joined_by_content}
@@ -27,11 +29,26 @@ use Rattle.circ_turn.specs.Ending.{EndsAs, GoesTo, RunEnds, reducing}
 use Rattle.circ_turn.specs.declared.end.End.{End}
 use Rattle.circ_turn.specs.declared.end.End.TheVariants as end
 use Rattle.circ_turn.proofs.Turning.{ends_then, goes_same, reduced_unlinked}
-use Rattle.circ_rewriting_turn.specs.Going.{TurnsTo}
+use Rattle.circ_rewriting_turn.specs.Going.{TurnsTo, TurnsToOrDone}
 
 -- a run that ends for want of memory says nothing
 pub memory_ends : {X : Type 0} (R : Ending → Type 0) (st : Standing) (r : Result X End) → (e : End) × (r ≡ Err e) × (e ≡ end.Memory) → RunEnds R st r
 memory_ends {X = X} R st r p = let P : Result X End → Type 0 = λ x. RunEnds R st x in subst P (sym (p.1 ∙ ap Err p.2)) tt
+
+-- what a turn tells that goes on
+pub tells_next : (r : Result Going Ending) (y : Going) (q : Result Bool End) (b : Bool) → q ≡ Ok b → b ≡ true → TurnsToOrDone r y q → r ≡ Ok y
+tells_next r y q b e f h = let P : Result Bool End → Type 0 = λ x. TurnsToOrDone r y x in subst P (e ∙ ap (λ (d : Bool). Ok d) f) h
+
+pub holds_next : (P : Type 0) (q : Result Bool End) (b : Bool) → q ≡ Ok b → b ≡ true → IfOk q (λ d. OnTrue d P) → P
+holds_next P q b e f h = let Q : Result Bool End → Type 0 = λ x. IfOk x (λ d. OnTrue d P) in subst Q (e ∙ ap (λ (d : Bool). Ok d) f) h
+
+-- what the last turn tells
+pub tells_done : (r : Result Going Ending) (y : Going) (q : Result Bool End) (b : Bool) → q ≡ Ok b → b ≡ false → TurnsToOrDone r y q
+    → r ≡ Err (All_done y.standing.finished y.standing.derives y.standing.made y.standing.deep)
+tells_done r y q b e f h = let P : Result Bool End → Type 0 = λ x. TurnsToOrDone r y x in subst P (e ∙ ap (λ (d : Bool). Ok d) f) h
+
+pub tells_end : (r : Result Going Ending) (y : Going) (q : Result Bool End) (e : End) → q ≡ Err e → TurnsToOrDone r y q → EndsAs r e
+tells_end r y q e is h = let P : Result Bool End → Type 0 = λ x. TurnsToOrDone r y x in subst P is h
 
 -- a goal that is done with goes on afresh
 pub goes_afresh : {X : Type 0} (r : Result Standing Ending) (st : Standing) (x : Result X End) → GoesTo r st x → TurnsTo (afresh r) (going st []) x

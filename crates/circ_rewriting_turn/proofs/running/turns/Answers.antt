@@ -9,6 +9,8 @@ use Rattle.circ_turn.specs.Standing.{standing, manner_of}
 use Rattle.circ_turn.proofs.Earlier.{start_earlier}
 use Rattle.circ_turn.proofs.Turning.{is_end}
 use Rattle.circ_rewriting_turn.specs.Going.{rewriting_by}
+use Rattle.circ_rewriting_turn.specs.PassRules.{ReadAt}
+use Rattle.circ_rewriting_turn.proofs.Going.{tells_next, tells_done, tells_end, holds_next}
 use Rattle.circ_rewriting_turn.proofs.running.turns.Goals as goal
 
 pub loop-end-init : goal.loop-end-init
@@ -64,19 +66,25 @@ turn-requires-clause-next c = λ y t.
 
 pub loop-end-smaller : goal.loop-end-smaller
 loop-end-smaller c =
-    let t = rw (c.in-Ok-true.is, c.in-Ok-true.field-0-test) at c.turn.ensures.exact in
-    c.turns_end.ensures c.args.search.now.theory.now c.args.search.now.gamma.now (rewriting_by c.args.search.now)
-    (going (standing c.loop-end.state) c.loop-end.passed) (going (standing c.turn.new.state) c.turn.new.passed) t
+    let th = c.args.search.now.theory.now in
+    let G = c.args.search.now.gamma.now in
+    let m = rewriting_by c.args.search.now in
+    let x : Going = going (standing c.loop-end.state) c.loop-end.passed in
+    let y : Going = going (standing c.turn.new.state) c.turn.new.passed in
+    let on = c.in-Ok-true in
+    c.turns_end.ensures th G m x y (tells_next (turn_rewriting th G m x) y c.turn.result on.field-0 on.is on.field-0-test c.turn.ensures.exact)
 
 pub loop-end-preserved : goal.loop-end-preserved
 loop-end-preserved c =
-    let t = rw (c.in-Ok-true.is, c.in-Ok-true.field-0-test) at c.turn.ensures.exact in
-    let r = rw (c.in-Ok-true.is, c.in-Ok-true.field-0-test) at c.turn.ensures.rules in
-    let p = rw (c.in-Ok-true.is, c.in-Ok-true.field-0-test) at c.turn.ensures.passes in
+    let th = c.args.search.now.theory.now in
+    let x : Going = going (standing c.loop-end.state) c.loop-end.passed in
+    let y : Going = going (standing c.turn.new.state) c.turn.new.passed in
+    let r = turn_rewriting th c.args.search.now.gamma.now (rewriting_by c.args.search.now) x in
+    let on = c.in-Ok-true in
     record {
-      comes = further_so (going (standing c.loop-end.state) c.loop-end.passed) (going (standing c.turn.new.state) c.turn.new.passed) c.loop-end.invariant.comes t;
-      rules = r;
-      passes = p;
+      comes = further_so x y c.loop-end.invariant.comes (tells_next r y c.turn.result on.field-0 on.is on.field-0-test c.turn.ensures.exact);
+      rules = holds_next (IsRulesOf th c.turn.new.state.hyps.earlier c.turn.new.rules) c.turn.result on.field-0 on.is on.field-0-test c.turn.ensures.rules;
+      passes = holds_next (ReadAt th (standing c.turn.new.state) c.turn.new.passes) c.turn.result on.field-0 on.is on.field-0-test c.turn.ensures.passes;
     }
 
 pub returns-in-Ok-false : goal.returns-in-Ok-false
@@ -87,7 +95,8 @@ returns-in-Ok-false c =
     let st = standing c.turn.new.state in
     let e : Ending = All_done st.finished st.derives st.made st.deep in
     let x : Going = going (standing c.loop-end.state) c.loop-end.passed in
-    let t = rw (c.in-Ok-false.is, c.in-Ok-false.field-0-test) at c.turn.ensures.exact in
+    let off = c.in-Ok-false in
+    let t = tells_done (turn_rewriting th G m x) (going st c.turn.new.passed) c.turn.result off.field-0 off.is off.field-0-test c.turn.ensures.exact in
     c.what_comes_finishes.ensures th G m (going (standing c.args.state.now) []) x e c.loop-end.invariant.comes (stops_so x e t)
 
 pub returns-in-Err : goal.returns-in-Err
@@ -96,6 +105,7 @@ returns-in-Err c =
     let G = c.args.search.now.gamma.now in
     let m = rewriting_by c.args.search.now in
     let x : Going = going (standing c.loop-end.state) c.loop-end.passed in
-    let t = rw c.in-Err.is at c.turn.ensures.exact in
+    let y : Going = going (standing c.turn.new.state) c.turn.new.passed in
+    let t = tells_end (turn_rewriting th G m x) y c.turn.result c.in-Err.end c.in-Err.is c.turn.ensures.exact in
     is_end (FinishesRewriting th G m (going (standing c.args.state.now) [])) (turn_rewriting th G m x) c.in-Err.end
     (λ y z. c.what_comes_finishes.ensures th G m (going (standing c.args.state.now) []) x y c.loop-end.invariant.comes (stops_so x y z)) t

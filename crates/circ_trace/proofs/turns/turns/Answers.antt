@@ -9,8 +9,8 @@ use Rattle.circ_block.specs.Rules.{IsRulesOf}
 use Rattle.circ_turn.specs.Standing.{standing, manner_of, conduct_with}
 use Rattle.circ_turn.proofs.Earlier.{start_earlier}
 use Rattle.circ_turn.proofs.Turning.{is_end}
-use Rattle.circ_rewriting_turn.proofs.Going.{memory_ends}
-use Rattle.circ_trace.specs.Telling.{IsTold}
+use Rattle.circ_rewriting_turn.proofs.Going.{memory_ends, tells_next, tells_done, tells_end, holds_next}
+use Rattle.circ_trace.specs.Telling.{IsTold, RulesAreRead}
 use Rattle.circ_trace.specs.declared.descent.Descent.{Descent}
 use Rattle.circ_trace.proofs.Telling.{GoesOn, from_start, one_more, the_last}
 use Rattle.circ_trace.proofs.turns.turns.Goals as goal
@@ -93,20 +93,26 @@ next_turn-requires-clause-next c = λ y t.
 
 pub loop-rules-smaller : goal.loop-rules-smaller
 loop-rules-smaller c =
-    let t = rw (c.in-Ok-true.is, c.in-Ok-true.field-0-test) at c.next_turn.ensures.exact in
-    c.turns_end.ensures c.args.search.now.theory.now c.args.search.now.gamma.now (conduct_with c.args.search.now.limits)
-    (going (standing c.loop-rules.state) c.loop-rules.passed) (going (standing c.next_turn.new.state) c.next_turn.new.passed) t
+    let th = c.args.search.now.theory.now in
+    let G = c.args.search.now.gamma.now in
+    let m = conduct_with c.args.search.now.limits in
+    let x : Going = going (standing c.loop-rules.state) c.loop-rules.passed in
+    let y : Going = going (standing c.next_turn.new.state) c.next_turn.new.passed in
+    let on = c.in-Ok-true in
+    c.turns_end.ensures th G m x y (tells_next (turn_rewriting th G m x) y c.next_turn.result on.field-0 on.is on.field-0-test c.next_turn.ensures.exact)
 
 pub loop-rules-preserved : goal.loop-rules-preserved
 loop-rules-preserved c =
     let th = c.args.search.now.theory.now in
     let G = c.args.search.now.gamma.now in
     let m = conduct_with c.args.search.now.limits in
-    let x = going (standing c.loop-rules.state) c.loop-rules.passed in
-    let next = going (standing c.next_turn.new.state) c.next_turn.new.passed in
-    let t = rw (c.in-Ok-true.is, c.in-Ok-true.field-0-test) at c.next_turn.ensures.exact in
-    let r = rw (c.in-Ok-true.is, c.in-Ok-true.field-0-test) at c.next_turn.ensures.rules in
-    let p = rw (c.in-Ok-true.is, c.in-Ok-true.field-0-test) at c.next_turn.ensures.passes in
+    let x : Going = going (standing c.loop-rules.state) c.loop-rules.passed in
+    let next : Going = going (standing c.next_turn.new.state) c.next_turn.new.passed in
+    let on = c.in-Ok-true in
+    let q = c.next_turn.result in
+    let t = tells_next (turn_rewriting th G m x) next q on.field-0 on.is on.field-0-test c.next_turn.ensures.exact in
+    let r = holds_next (IsRulesOf th c.next_turn.new.state.hyps.earlier c.next_turn.new.rules) q on.field-0 on.is on.field-0-test c.next_turn.ensures.rules in
+    let p = holds_next (RulesAreRead c.args.search.now (standing c.next_turn.new.state) c.next_turn.new.passes) q on.field-0 on.is on.field-0-test c.next_turn.ensures.passes in
     record {
       comes = further_so x next c.loop-rules.invariant.comes t;
       rules = r;
@@ -130,7 +136,8 @@ returns-in-Ok-false c =
     let st = standing c.next_turn.new.state in
     let e : Ending = All_done st.finished st.derives st.made st.deep in
     let x : Going = going (standing c.loop-rules.state) c.loop-rules.passed in
-    let t = rw (c.in-Ok-false.is, c.in-Ok-false.field-0-test) at c.next_turn.ensures.exact in
+    let off = c.in-Ok-false in
+    let t = tells_done (turn_rewriting th G m x) (going st c.next_turn.new.passed) c.next_turn.result off.field-0 off.is off.field-0-test c.next_turn.ensures.exact in
     the_last th G m (standing c.args.state.now) c.args.out.now.items c.loop-rules.waiting.items x e
     c.loop-rules.out.items c.tell.new.out.items c.loop-rules.invariant.told t c.in_ok-tell.ensures.lines
 
@@ -140,7 +147,8 @@ returns-in-Err c =
     let G = c.args.search.now.gamma.now in
     let m = conduct_with c.args.search.now.limits in
     let x : Going = going (standing c.loop-rules.state) c.loop-rules.passed in
-    let t = rw c.in-Err.is at c.next_turn.ensures.exact in
+    let y : Going = going (standing c.next_turn.new.state) c.next_turn.new.passed in
+    let t = tells_end (turn_rewriting th G m x) y c.next_turn.result c.in-Err.end c.in-Err.is c.next_turn.ensures.exact in
     is_end (IsTold th G m (standing c.args.state.now) c.args.out.now.items c.tell.new.out.items) (turn_rewriting th G m x) c.in-Err.end
     (λ y z. the_last th G m (standing c.args.state.now) c.args.out.now.items c.loop-rules.waiting.items x y
     c.loop-rules.out.items c.tell.new.out.items c.loop-rules.invariant.told z c.in_ok-tell.ensures.lines) t
