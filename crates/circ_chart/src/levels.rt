@@ -18,8 +18,8 @@ pub struct Levels {
     /// Of each token the least precedence of a rule that has it as a word; 0 where it is a
     /// variable.
     pub tokens: Vec<u8>,
-    // For each place but the first the next one, from there on, of a higher level than the one
-    // before it.
+    /// For each place but the first the next place, from there on, of a higher level than the one
+    /// before it; counted from 0, and the number of tokens where there is none.
     pub higher: Vec<usize>,
     // Where the next parenthesis opens.
     pub opened: Table,
