@@ -1,17 +1,15 @@
 //! A checker that takes the parts of a proof one after the other.
-ghost use Rattle.std.specs.Prelude.{◌≡◌, ◌≤◌, ◌<◌, ◌+◌, ◌^◌, ◌++◌, ◌∷◌, [], ℕ, List, Some, None, true, false};
-ghost use Rattle.std.specs.Prelude.{length, map, take};
+ghost use Rattle.std.specs.Prelude.{◌≡◌, ◌<◌, ◌+◌, ◌^◌, ◌++◌, ◌∷◌, [], ℕ, List, Some, None, true, false};
+ghost use Rattle.std.specs.Prelude.{map, take};
 ghost use Rattle.std.specs.Prelude.{OnOk, IsErr};
-ghost use Rattle.std.specs.List.{AllByRecursion};
 ghost use Rattle.std.specs.Result.{OnErr};
 ghost use Rattle.circ_term.specs.Growing.{Grows};
 ghost use Rattle.circ_theory.specs.Theory.{Theory};
 ghost use Rattle.circ_theory.specs.Goal.{Goal as PlainGoal};
-ghost use Rattle.circ_proof.specs.Proof.{GoalNames as PlainNames, Proof, ProofFor};
+ghost use Rattle.circ_proof.specs.Proof.{Proof, ProofFor};
 ghost use Rattle.circ_proof.specs.Parts.{Part as PlainPart, parts_of};
 ghost use Rattle.circ_proof.specs.Parts.{Head, Certificate, Goals, Step as StepPart};
 ghost use Rattle.circ_proof.specs.Accepted.{Derives, FirstFail};
-ghost use Rattle.circ_proof.specs.Goals.{AreSortedGoals};
 ghost use Rattle.circ_theory.specs.Rewriting.{named};
 ghost use Rattle.circ_proof.specs.Plain.{plain_links};
 ghost use Rattle.circ_proof.specs.Link.{resolved_links};
@@ -21,7 +19,6 @@ ghost use Rattle.circ_table.specs.Part.{plain_part};
 ghost use Rattle.circ_entering.specs.Lines.{numbered_at, lines_at, AreLinesAt, LinesStay};
 ghost use Rattle.circ_check.specs.Deciding.{plain_list, Finds, FoundBehave, DerivedBehave};
 ghost use Rattle.circ_check.specs.Checking.{with_derived, goals_in};
-ghost use Rattle.circ_check.specs.Naming.{AreNamedGoals};
 ghost use Rattle.circ_check.specs.Ready.{IsPartReady};
 ghost use Rattle.circ_check.specs.Watching.{failed_of, derived_of, checking_of, IsSpent};
 ghost use Rattle.circ_check.specs.Watching.{Stands, FitsNext, IsSound, IsAsBefore};

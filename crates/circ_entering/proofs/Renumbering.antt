@@ -1,16 +1,16 @@
 -- Lines of a table that are entered one after another.
-use Rattle.std.proofs.Common.{◌≡◌, ◌<◌, ◌≤◌, ◌+◌, ◌⊎◌, inl, inr, ℕ, zero, suc, List, [], ◌∷◌, ◌++◌, length, map, take, drop, slice_index_or, slice_set}
+use Rattle.std.proofs.Common.{◌≡◌, ◌<◌, ◌+◌, ◌⊎◌, inl, inr, ℕ, zero, suc, List, [], ◌∷◌, ◌++◌, length, map, take, drop, slice_index_or, slice_set}
 use Rattle.std.proofs.Common.{Option, Some, None, Result, Ok, Err, OnOk, refl, ap, sym, subst, ◌∙◌, arith, replicate}
 use Rattle.std.specs.List.{Contains, slice_get, AllByRecursion}
 use Rattle.std.proofs.lemmas.Bool.{cases_eq}
 use Rattle.std.proofs.lemmas.List.{length-map}
 use Rattle.std.proofs.lemmas.List.Elements.{Contains-append_left, Contains-append_right}
 use Rattle.circ_term.specs.Growing.{Grows}
-use Rattle.circ_term.specs.Tree.{Tree, Trees, Var, trees_of}
+use Rattle.circ_term.specs.Tree.{Tree, trees_of}
 use Rattle.circ_theory.specs.Rewriting.{named}
 use Rattle.circ_nodes.specs.Named.{IsNamed, AreNamed, tree_at}
 use Rattle.circ_nodes.proofs.Located.{named_tree, trees_later}
-use Rattle.circ_nodes.proofs.Numbers.{grows_self, grows_more, named_later, named_below, are_named_later}
+use Rattle.circ_nodes.proofs.Numbers.{named_later, named_below, are_named_later}
 use Rattle.circ_nodes.proofs.Places.{get_there}
 use Rattle.circ_table.specs.Table.{first_at, firsts_at}
 use Rattle.circ_table.proofs.Firsts.{first_parts}

@@ -1,6 +1,6 @@
 //! The lines of a table get numbers when they are named.
 ghost use Rattle.std.specs.Prelude.{◌≡◌, ◌<◌, ◌++◌, ◌∷◌, [], true, false, List, Some};
-ghost use Rattle.std.specs.Prelude.{length, map, slice_index_or, slice_set, IfOk, OnOk};
+ghost use Rattle.std.specs.Prelude.{length, map, slice_set, IfOk, OnOk};
 ghost use Rattle.std.specs.List.{AllByRecursion};
 ghost use Rattle.circ_term.specs.Growing.{Grows};
 ghost use Rattle.circ_term.specs.Tree.{Tree, trees_of};

@@ -1,5 +1,5 @@
 -- Turns with hypotheses as rules, in steps.
-use Rattle.std.proofs.Common.{◌≡◌, ℕ, ◌<◌, Bool, true, false, if◌then◌else◌, List, [], ◌∷◌, ◌++◌, map, drop, length, Option, Some, None, Result, Ok, Err, refl, ap, sym, subst, ◌∙◌, arith}
+use Rattle.std.proofs.Common.{◌≡◌, ℕ, ◌<◌, Bool, true, false, if◌then◌else◌, List, [], ◌∷◌, ◌++◌, map, drop, length, Option, Some, Result, Ok, Err, refl, ap, sym, subst, ◌∙◌, arith}
 use Rattle.std.specs.Prelude.{IfOk}
 use Rattle.std.specs.Bool.{OnTrue}
 use Rattle.circ_term.specs.Tree.{Tree}
@@ -7,7 +7,7 @@ use Rattle.circ_theory.specs.Theory.{Theory, Pair, goal}
 use Rattle.circ_theory.specs.Goal.{Goal}
 use Rattle.circ_special.specs.declared.place.Place.{Place}
 use Rattle.circ_proof.specs.Plain.{ChainOf, WhyOf, Same_why}
-use Rattle.circ_conditional_norm.specs.Work.{Work, Made}
+use Rattle.circ_conditional_norm.specs.Work.{Made}
 use Rattle.circ_plain_search.specs.BlockRules.{block_rules}
 use Rattle.circ_plain_search.specs.Joining.{and_then}
 use Rattle.circ_plain_search.specs.Search.{Limits, Standing, Ending, All_done, Sides, chain_with, chained, has_links, or_end, done_turn}

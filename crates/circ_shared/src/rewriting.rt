@@ -1,5 +1,5 @@
 //! A subterm in place of another.
-ghost use Rattle.std.specs.Prelude.{◌≡◌, ◌<◌, length, IfOk};
+ghost use Rattle.std.specs.Prelude.{◌<◌, length, IfOk};
 ghost use Rattle.std.specs.Option.{IfSome};
 ghost use Rattle.circ_term.specs.Growing.{Grows};
 ghost use Rattle.circ_term.specs.Substitution.{Substitution, instance};
@@ -8,7 +8,7 @@ ghost use Rattle.circ_replay.specs.Rewriting.{GivesInstance, GivesReplaced, Give
 ghost use Rattle.circ_replay.specs.Rewriting.{GivesPairs};
 ghost use Rattle.circ_shared.specs.Interned.{OfTerm};
 ghost use Rattle.circ_shared.specs.Memo.{IsMade};
-ghost use Rattle.circ_shared.specs.Patterns.{pairs_at, IsThere, AreThere};
+ghost use Rattle.circ_shared.specs.Patterns.{pairs_at, AreThere};
 ghost use Rattle.circ_shared.specs.Usage.{OfPairs};
 
 use crate::instances::{Made, instance};

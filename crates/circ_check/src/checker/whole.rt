@@ -1,6 +1,5 @@
 //! A proof that is taken whole.
-ghost use Rattle.std.specs.Prelude.{◌≡◌, ◌<◌, ◌++◌, ◌∷◌, [], List, length, map, IfOk, OnOk};
-ghost use Rattle.std.specs.List.{AllByRecursion};
+ghost use Rattle.std.specs.Prelude.{◌≡◌, ◌<◌, ◌++◌, [], List, map, IfOk, OnOk};
 ghost use Rattle.circ_term.specs.Growing.{Grows};
 ghost use Rattle.circ_theory.specs.Theory.{Theory as PlainTheory};
 ghost use Rattle.circ_proof.specs.Proof.{Proof as PlainProof, ProofFor};

@@ -1,8 +1,7 @@
-use Rattle.std.proofs.Common.{map, ap, sym, subst}
-use Rattle.circ_term.specs.Tree.{Tree, trees_of}
+use Rattle.std.proofs.Common.{subst}
+use Rattle.circ_term.specs.Tree.{trees_of}
 use Rattle.circ_theory.specs.Rewriting.{named}
 use Rattle.circ_nodes.specs.Named.{AreNamed}
-use Rattle.circ_table.specs.Line.{IsLine, numbers_in}
 use Rattle.circ_entering.proofs.Renumbering.{firsts_named}
 use Rattle.circ_entering.proofs.lines.enter_line.Goals as goal
 

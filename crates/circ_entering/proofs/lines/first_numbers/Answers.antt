@@ -1,5 +1,4 @@
-use Rattle.std.proofs.Common.{◌≡◌, ◌<◌, List, ℕ, [], length, map, sym, subst, replicate, ◌∙◌, ap, arith}
-use Rattle.std.specs.List.{AllByRecursion}
+use Rattle.std.proofs.Common.{◌<◌, List, ℕ, [], length, map, sym, subst, replicate, ◌∙◌, ap, arith}
 use Rattle.circ_term.specs.Tree.{trees_of}
 use Rattle.circ_theory.specs.Rewriting.{named}
 use Rattle.circ_nodes.specs.Named.{AreNamed}

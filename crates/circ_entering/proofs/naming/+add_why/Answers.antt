@@ -1,4 +1,4 @@
-use Rattle.std.proofs.Common.{◌++◌, ◌∷◌, [], ap, sym, refl, ◌∙◌, append_assoc}
+use Rattle.std.proofs.Common.{◌++◌, ◌∷◌, [], ap, sym, ◌∙◌, append_assoc}
 use Rattle.circ_proof.specs.Plain.{plain_why, plain_whys, plain_chain}
 use Rattle.circ_proof.proofs.Rows.{split_plain}
 use Rattle.circ_entering.specs.Naming.{chain_terms, why_terms, whys_terms}

@@ -3,7 +3,7 @@ use Rattle.circ_theory.specs.Goal.{Goal}
 use Rattle.circ_plain_search.specs.Search.{Standing, Ending, All_done}
 use Rattle.circ_attempt.specs.Attempt.{Stood}
 use Rattle.circ_attempt.specs.RewritingSearch.{ComesRewriting, here_so, further_so}
-use Rattle.circ_attempt.specs.Search.{Conduct, Going, going, turn_rewriting, FinishesRewriting, stops_so}
+use Rattle.circ_attempt.specs.Search.{Going, going, turn_rewriting, FinishesRewriting, stops_so}
 use Rattle.circ_block.specs.Rules.{IsRulesOf}
 use Rattle.circ_turn.specs.Standing.{standing, manner_of}
 use Rattle.circ_turn.proofs.Earlier.{start_earlier}

@@ -1,5 +1,4 @@
-use Rattle.std.proofs.Common.{◌≡◌, ◌<◌, ◌∙◌, List, ℕ, [], length, drop, slice_index_or, refl, ap, subst, arith}
-use Rattle.std.specs.List.{AllByRecursion}
+use Rattle.std.proofs.Common.{◌<◌, ◌∙◌, List, ℕ, length, slice_index_or, refl, ap, subst, arith}
 use Rattle.std.proofs.lemmas.List.{drop_all}
 use Rattle.circ_entering.specs.Lines.{HaveNumbers}
 use Rattle.circ_entering.proofs.Renumbering.{place_all, put_length, all_next}

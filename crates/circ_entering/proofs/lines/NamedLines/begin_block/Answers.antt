@@ -1,6 +1,5 @@
-use Rattle.std.proofs.Common.{◌≡◌, ◌<◌, ◌++◌, [], List, ℕ, length, map, ap, sym, subst, ◌∙◌}
+use Rattle.std.proofs.Common.{◌<◌, ◌++◌, List, ℕ, length, map, ap, sym, subst, ◌∙◌}
 use Rattle.std.specs.List.{AllByRecursion}
-use Rattle.circ_term.specs.Tree.{Tree}
 use Rattle.circ_proof.specs.PlainProof.{plain_names}
 use Rattle.circ_entering.specs.Naming.{names_terms}
 use Rattle.circ_entering.specs.Lines.{HaveNumbersBy, line_numbers, numbered_at, lines_at, IsNamedRightly}

@@ -1,4 +1,4 @@
-use Rattle.std.proofs.Common.{ℕ, ◌<◌, [], length, subst}
+use Rattle.std.proofs.Common.{ℕ, ◌<◌, [], subst}
 use Rattle.std.specs.List.{AllByRecursion}
 use Rattle.circ_nodes.proofs.Numbers.{grows_self}
 use Rattle.circ_entering.specs.Lines.{line_numbers}

@@ -1,4 +1,4 @@
-use Rattle.std.proofs.Common.{◌≡◌, ◌<◌, [], List, ℕ, length, ap, sym, subst, ◌∙◌}
+use Rattle.std.proofs.Common.{◌<◌, List, ℕ, length, ap, sym, subst, ◌∙◌}
 use Rattle.std.specs.List.{AllByRecursion}
 use Rattle.circ_entering.specs.Lines.{HaveNumbers, line_numbers}
 use Rattle.circ_entering.proofs.Renumbering.{late_within, all_forgotten, same_forgotten}
