@@ -1,8 +1,8 @@
 -- Leaves of sums, and what stands in no other part.
-use Rattle.std.proofs.Common.{◌≡◌, ◌↔◌, ℕ, ◌+◌, ◌*◌, ◌<◌, ◌≤◌, Bool, true, false, cond, ◌==◌, ◌&&◌, not, if◌then◌else◌, List, [], ◌∷◌, ◌++◌, length, Some, refl, sym, ap, subst, ◌∙◌, arith, inl, inr}
-use Rattle.std.specs.List.{Contains, AllByRecursion}
+use Rattle.std.proofs.Common.{◌≡◌, ◌↔◌, ℕ, ◌+◌, ◌*◌, ◌<◌, ◌≤◌, Bool, true, false, cond, ◌==◌, ◌&&◌, not, if◌then◌else◌, List, [], ◌∷◌, ◌++◌, length, refl, sym, ap, subst, ◌∙◌, arith, inl, inr}
+use Rattle.std.specs.List.{Contains, AllByRecursion, sum_by}
 use Rattle.std.proofs.lemmas.Bool.{eqb-true, eq-eqb}
-use Rattle.std.proofs.lemmas.List.Sums.{sum_by-cons}
+use Rattle.std.proofs.lemmas.List.Sums.{sum_by-cons, sum_by-append, sum_by_push}
 use Rattle.std.proofs.Common.{zero, suc, ◌⊎◌, map, Result, Ok, Err, IfOk, IsTrue}
 use Rattle.std.specs.Prelude.{slice_index_or}
 use Rattle.std.specs.Ordering.{is_lt}
@@ -10,7 +10,7 @@ use Rattle.std.specs.BinaryHeap.{IsUpperBound}
 use Rattle.std.specs.List.Sorted.{IsPermutation}
 use Rattle.std.proofs.lemmas.Bool.Decides.{nat_tests}
 use Rattle.std.proofs.lemmas.List.{length-map}
-use Rattle.std.proofs.lemmas.List.Sorted.{IsPermutation-sym, Contains-permutation, sum_by_popped, sum_by_pushed}
+use Rattle.std.proofs.lemmas.List.Sorted.{IsPermutation-sym, IsPermutation-to_front, Contains-permutation, sum_by_popped, sum_by_pushed}
 use Rattle.circ_term.specs.Tree.{Tree, Trees, Var, App, none, more, size_of, list_of, trees_of}
 use Rattle.circ_term.proofs.Trees.{list_of-trees_of}
 use Rattle.circ_term.specs.Order.{is_same}
@@ -19,12 +19,12 @@ use Rattle.circ_nodes.specs.Named.{tree_at}
 use Rattle.circ_theory.specs.Signature.{Operator}
 use Rattle.circ_theory.specs.Operators.{has_mark}
 use Rattle.circ_aci.specs.Content.{leaves, content, settled, sorted_terms}
-use Rattle.circ_nodes.specs.Named.{IsNamed, AreNamed, IsOnce}
+use Rattle.circ_nodes.specs.Named.{IsNamed, AreNamed}
 use Rattle.circ_nodes.proofs.Numbers.{all_below}
 use Rattle.circ_weigh.specs.declared.weighing.Part.{Part}
-use Rattle.circ_weigh.specs.Weighing.{one, ones, holds, left_sum, right_sum, size_sum, part_cmp, Agree, Balances, BalancesWith, IsPart, AreParts, Adds, Takes, IsAbove, IsPast, StepsOn, Stops}
+use Rattle.circ_weigh.specs.Weighing.{one, ones, holds, left_sum, right_sum, part_cmp, Agree, Balances, BalancesWith, IsPart, AreParts, IsLeafPart, Adds, Takes, IsAbove, IsPast, StepsOn}
 use Rattle.circ_nodes.proofs.Located.{tree_named, trees_named}
-use Rattle.circ_weigh.proofs.Counting.{one_itself, ones-append, sorted_equal}
+use Rattle.circ_weigh.proofs.Counting.{ones-append, sorted_equal}
 
 -- a sum of two
 abbrev pub two : (f s : ℕ) → Tree → Tree → Tree
@@ -44,37 +44,8 @@ one_other t u other = go (is_same t u) refl
     go true e = absurd (other (same_here t u e))
     go false e = refl
 
--- a larger term, or one as large, is no leaf of another
-larger : (t u : Tree) → size_of u < size_of t → one t u + 0 ≡ 0
-larger t u h = let none = one_other t u (λ e. let z = ap size_of e in absurd (omega (arith, z, h))) in omega (arith, none)
-
-small_two : (f g s : ℕ) (t a b : Tree) → size_of (App g s (more a (more b none))) < size_of t → (size_of a < size_of t → ones t (leaves f a) ≡ 0) → (size_of b < size_of t → ones t (leaves f b) ≡ 0)
-    → (c : Bool) → ones t (if c then leaves f a ++ leaves f b else App g s (more a (more b none)) ∷ []) ≡ 0
-small_two f g s t a b h p q true =
-    let x = p (omega (arith, h)) in let y = q (omega (arith, h)) in ones-append t (leaves f a) (leaves f b) ∙ omega (arith, x, y)
-small_two f g s t a b h p q false = larger t (App g s (more a (more b none))) h
-
-pub leaf_small : (f : ℕ) (t u : Tree) → size_of u < size_of t → ones t (leaves f u) ≡ 0
-leaf_small f t (Var n s) h = larger t (Var n s) h
-leaf_small f t (App g s none) h = larger t (App g s none) h
-leaf_small f t (App g s (more a none)) h = larger t (App g s (more a none)) h
-leaf_small f t (App g s (more a (more b none))) h = small_two f g s t a b h (leaf_small f t a) (leaf_small f t b) (f == g)
-leaf_small f t (App g s (more a (more b (more c ts)))) h = larger t (App g s (more a (more b (more c ts)))) h
-
-other_alone : (t u : Tree) → (t ≡ u → ⊥) → one t u + 0 ≡ 0
+pub other_alone : (t u : Tree) → (t ≡ u → ⊥) → one t u + 0 ≡ 0
 other_alone t u other = let e = one_other t u other in omega (arith, e)
-
-pub leaf_other : (f : ℕ) (t u : Tree) → size_of u ≤ size_of t → (t ≡ u → ⊥) → ones t (leaves f u) ≡ 0
-leaf_other f t (Var n s) h other = other_alone t (Var n s) other
-leaf_other f t (App g s none) h other = other_alone t (App g s none) other
-leaf_other f t (App g s (more a none)) h other = other_alone t (App g s (more a none)) other
-leaf_other f t (App g s (more a (more b none))) h other = go (f == g)
-  where
-    go : (c : Bool) → ones t (if c then leaves f a ++ leaves f b else App g s (more a (more b none)) ∷ []) ≡ 0
-    go true =
-        let x = leaf_small f t a (omega (arith, h)) in let y = leaf_small f t b (omega (arith, h)) in ones-append t (leaves f a) (leaves f b) ∙ omega (arith, x, y)
-    go false = other_alone t (App g s (more a (more b none))) other
-leaf_other f t (App g s (more a (more b (more c ts)))) h other = other_alone t (App g s (more a (more b (more c ts)))) other
 
 -- ---- content
 
@@ -120,21 +91,28 @@ pub there_cases : {X : Type 0} (x y : X) (xs : List X) → Contains (x ∷ xs) y
 there_cases x y xs (zero, h, e) = inl e
 there_cases x y xs (suc k, h, e) = inr (k, omega (arith, h), e)
 
-pub no_left : (g : ℕ → ℕ) (ps : List Part) → ((p : Part) → Contains ps p → g p.number ≡ 0) → left_sum g ps ≡ 0
-no_left g [] h = refl
-no_left g (p ∷ ps) h =
+pub sum_same : (m n : Part → ℕ) (ps : List Part) → ((p : Part) → Contains ps p → m p ≡ n p) → sum_by m ps ≡ sum_by n ps
+sum_same m n [] h = refl
+sum_same m n (p ∷ ps) h =
     let here = h p (first_there p ps) in
-    let rest = no_left g ps (λ q k. h q (there_behind p q ps k)) in
-    let none : p.left * g p.number ≡ 0 = rw here (omega arith) in
-    sum_by-cons (λ p. p.left * g p.number) p ps ∙ omega (arith, none, rest)
+    let rest = sum_same m n ps (λ q k. h q (there_behind p q ps k)) in
+    let a = sum_by-cons m p ps in
+    let b = sum_by-cons n p ps in
+    omega (arith, here, rest, a, b)
 
-pub no_right : (g : ℕ → ℕ) (ps : List Part) → ((p : Part) → Contains ps p → g p.number ≡ 0) → right_sum g ps ≡ 0
-no_right g [] h = refl
-no_right g (p ∷ ps) h =
+pub sum_none : (m : Part → ℕ) (ps : List Part) → ((p : Part) → Contains ps p → m p ≡ 0) → sum_by m ps ≡ 0
+sum_none m [] h = refl
+sum_none m (p ∷ ps) h =
     let here = h p (first_there p ps) in
-    let rest = no_right g ps (λ q k. h q (there_behind p q ps k)) in
-    let none : p.right * g p.number ≡ 0 = rw here (omega arith) in
-    sum_by-cons (λ p. p.right * g p.number) p ps ∙ omega (arith, none, rest)
+    let rest = sum_none m ps (λ q k. h q (there_behind p q ps k)) in
+    let a = sum_by-cons m p ps in
+    omega (arith, here, rest, a)
+
+pub none_of : (w n : ℕ) → n ≡ 0 → w * n ≡ 0
+none_of w n h = ap (λ k. w * k) h ∙ omega arith
+
+pub all_of : (w n : ℕ) → n ≡ 1 → w * n ≡ w
+all_of w n h = ap (λ k. w * k) h ∙ omega arith
 
 pub spread_left : (a b c : ℕ) → a * (b + c) ≡ a * b + a * c
 spread_left a b c = omega arith
@@ -182,34 +160,79 @@ module _ (nodes : List Tree) (p f s : ℕ) (ns : List ℕ) (there : p < length n
 
 -- ---- parts that are added and taken
 
-pub adds_part : (nodes : List Tree) (x : Part) (old new : List Part) → IsPart nodes x → IsPermutation (x ∷ old) new → Adds nodes x.number x.left x.right old new
-adds_part nodes x old new is perm = record {
-  left_more = λ g. sum_by_pushed (λ (p : Part). p.left * g p.number) x old new perm;
-  right_more = λ g. sum_by_pushed (λ (p : Part). p.right * g p.number) x old new perm;
-  size_more = let size = is.size in let e = sum_by_pushed (λ (p : Part). p.size) x old new perm in e ∙ ap (λ n. n + size_sum old) size;
-  parts = λ all p there. each all p (there_cases x p old (Contains-permutation new (x ∷ old) p (IsPermutation-sym (x ∷ old) new perm) there));
-}
+pub there_pushed : {X : Type 0} (P : X → Type 0) (x : X) (old new : List X) → IsPermutation (x ∷ old) new → P x → ((p : X) → Contains old p → P p) → (p : X) → Contains new p → P p
+there_pushed P x old new perm one all p there = go (there_cases x p old (Contains-permutation new (x ∷ old) p (IsPermutation-sym (x ∷ old) new perm) there))
   where
-    each : AreParts nodes old → (p : Part) → (x ≡ p) ⊎ Contains old p → IsPart nodes p
-    each all p (inl e) = subst (IsPart nodes) e is
-    each all p (inr h) = all p h
+    go : (x ≡ p) ⊎ Contains old p → P p
+    go (inl e) = subst P e one
+    go (inr h) = all p h
 
-pub steps_same : (nodes : List Tree) (f : ℕ) (x : Part) (ps : List Part) → x.left ≡ x.right → StepsOn nodes f x ps ps
-steps_same nodes f x ps e = record {
+pushed_more : (m : Part → ℕ) (x : Part) (old new known : List Part) → IsPermutation (x ∷ old) new → sum_by m (new ++ known) ≡ m x + sum_by m (old ++ known)
+pushed_more m x old new known perm =
+    let a = sum_by_pushed m x old new perm in
+    let b = sum_by-append m new known in
+    let c = sum_by-append m old known in
+    omega (arith, a, b, c)
+
+noted_more : (m : Part → ℕ) (x : Part) (old known noted : List Part) → noted ≡ known ++ x ∷ [] → sum_by m (old ++ noted) ≡ m x + sum_by m (old ++ known)
+noted_more m x old known noted is =
+    let a = ap (sum_by m) is ∙ sum_by_push m known x in
+    let b = sum_by-append m old noted in
+    let c = sum_by-append m old known in
+    omega (arith, a, b, c)
+
+pub adds_sum : (nodes : List Tree) (f : ℕ) (x : Part) (old new known : List Part) → IsPart nodes x → IsPermutation (x ∷ old) new
+    → Adds nodes f x.number x.left x.right old new known known
+adds_sum nodes f x old new known is perm = record {
+  left_more = λ g. pushed_more (λ (p : Part). p.left * g p.number) x old new known perm;
+  right_more = λ g. pushed_more (λ (p : Part). p.right * g p.number) x old new known perm;
+  size_more = let size = is.size in let e = sum_by_pushed (λ (p : Part). p.size) x old new perm in omega (arith, e, size);
+  parts = λ all. there_pushed (IsPart nodes) x old new perm is all;
+  lone = λ all. all;
+}
+
+pub adds_leaf : (nodes : List Tree) (f : ℕ) (x : Part) (old known noted : List Part) → IsLeafPart nodes f x → noted ≡ known ++ x ∷ []
+    → Adds nodes f x.number x.left x.right old old known noted
+adds_leaf nodes f x old known noted is e = record {
+  left_more = λ g. noted_more (λ (p : Part). p.left * g p.number) x old known noted e;
+  right_more = λ g. noted_more (λ (p : Part). p.right * g p.number) x old known noted e;
+  size_more = omega arith;
+  parts = λ all. all;
+  lone = λ all p there. there_pushed (IsLeafPart nodes f) x known (known ++ x ∷ []) (IsPermutation-sym (known ++ x ∷ []) (x ∷ known) (IsPermutation-to_front known x)) is all p
+      (subst (λ ps. Contains ps p) e there);
+}
+
+pub steps_same : (nodes : List Tree) (f : ℕ) (x : Part) (old known : List Part) → x.left ≡ x.right → StepsOn nodes f x old old known known
+steps_same nodes f x old known e = record {
   balance = (
     (λ h t. let k = h t in let w = ap (λ n. n * holds nodes f t x.number) e in omega (arith, k, w)),
     (λ h t. let k = h t in let w = ap (λ n. n * holds nodes f t x.number) e in omega (arith, k, w)),
   );
   parts = λ h. h;
+  lone = λ h. h;
   falls = λ size. let one = size_some (tree_at nodes x.number) in omega (arith, size, one);
 }
 
-pub steps_two : (nodes : List Tree) (f : ℕ) (x : Part) (first second : ℕ) (old middle new : List Part)
+pub steps_leaf : (nodes : List Tree) (f : ℕ) (x : Part) (old known noted : List Part) → IsLeafPart nodes f x → noted ≡ known ++ x ∷ [] → StepsOn nodes f x old old known noted
+steps_leaf nodes f x old known noted is e =
+    let adds = adds_leaf nodes f x old known noted is e in
+    record {
+      balance = (
+        (λ h t. let k = h t in let a = adds.left_more (holds nodes f t) in let b = adds.right_more (holds nodes f t) in omega (arith, k, a, b)),
+        (λ h t. let k = h t in let a = adds.left_more (holds nodes f t) in let b = adds.right_more (holds nodes f t) in omega (arith, k, a, b)),
+      );
+      parts = λ h. h;
+      lone = adds.lone;
+      falls = λ size. let one = size_some (tree_at nodes x.number) in omega (arith, size, one);
+    }
+
+pub steps_two : (nodes : List Tree) (f : ℕ) (x : Part) (first second : ℕ) (old middle new known between noted : List Part)
     → (s : ℕ) × (tree_at nodes x.number ≡ App f s (more (tree_at nodes first) (more (tree_at nodes second) none))) × (first < length nodes) × (second < length nodes)
-    → Adds nodes first x.left x.right old middle → Adds nodes second x.left x.right middle new → StepsOn nodes f x old new
-steps_two nodes f x first second old middle new is one two = record {
+    → Adds nodes f first x.left x.right old middle known between → Adds nodes f second x.left x.right middle new between noted → StepsOn nodes f x old new known noted
+steps_two nodes f x first second old middle new known between noted is one two = record {
   balance = ((λ h t. forth t (h t)), (λ h t. back t (h t)));
   parts = λ h. two.parts (one.parts h);
+  lone = λ h. two.lone (one.lone h);
   falls = λ size.
       let a = one.size_more in let b = two.size_more in
       let whole = ap size_of is.1 in omega (arith, size, a, b, whole);
@@ -220,26 +243,26 @@ steps_two nodes f x first second old middle new is one two = record {
         ap (λ u. ones t (leaves f u)) is.1 ∙ ap (ones t) (leaves_two f is.0 (tree_at nodes first) (tree_at nodes second))
         ∙ ones-append t (leaves f (tree_at nodes first)) (leaves f (tree_at nodes second))
 
-    left : (t : Tree) → left_sum (holds nodes f t) new ≡ left_sum (holds nodes f t) old + x.left * holds nodes f t x.number
+    left : (t : Tree) → left_sum (holds nodes f t) (new ++ noted) ≡ left_sum (holds nodes f t) (old ++ known) + x.left * holds nodes f t x.number
     left t =
         let g : ℕ → ℕ = holds nodes f t in
         let a = one.left_more g in let b = two.left_more g in
         let d = ap (λ n. x.left * n) (apart t) ∙ spread_left x.left (g first) (g second) in
         omega (arith, a, b, d)
 
-    right : (t : Tree) → right_sum (holds nodes f t) new ≡ right_sum (holds nodes f t) old + x.right * holds nodes f t x.number
+    right : (t : Tree) → right_sum (holds nodes f t) (new ++ noted) ≡ right_sum (holds nodes f t) (old ++ known) + x.right * holds nodes f t x.number
     right t =
         let g : ℕ → ℕ = holds nodes f t in
         let a = one.right_more g in let b = two.right_more g in
         let d = ap (λ n. x.right * n) (apart t) ∙ spread_left x.right (g first) (g second) in
         omega (arith, a, b, d)
 
-    forth : (t : Tree) → left_sum (holds nodes f t) new ≡ right_sum (holds nodes f t) new
-        → left_sum (holds nodes f t) old + x.left * holds nodes f t x.number ≡ right_sum (holds nodes f t) old + x.right * holds nodes f t x.number
+    forth : (t : Tree) → left_sum (holds nodes f t) (new ++ noted) ≡ right_sum (holds nodes f t) (new ++ noted)
+        → left_sum (holds nodes f t) (old ++ known) + x.left * holds nodes f t x.number ≡ right_sum (holds nodes f t) (old ++ known) + x.right * holds nodes f t x.number
     forth t h = sym (left t) ∙ h ∙ right t
 
-    back : (t : Tree) → left_sum (holds nodes f t) old + x.left * holds nodes f t x.number ≡ right_sum (holds nodes f t) old + x.right * holds nodes f t x.number
-        → left_sum (holds nodes f t) new ≡ right_sum (holds nodes f t) new
+    back : (t : Tree) → left_sum (holds nodes f t) (old ++ known) + x.left * holds nodes f t x.number ≡ right_sum (holds nodes f t) (old ++ known) + x.right * holds nodes f t x.number
+        → left_sum (holds nodes f t) (new ++ noted) ≡ right_sum (holds nodes f t) (new ++ noted)
     back t h = left t ∙ h ∙ sym (right t)
 
 -- ---- the greatest part
@@ -323,6 +346,12 @@ parts_agree nodes ps h p q a b e = let x = (h p a).size in let y = (h q b).size 
 
 -- ---- the loop
 
+taken_less : (m : Part → ℕ) (w : ℕ) (old rest known : List Part) → sum_by m rest + w ≡ sum_by m old → sum_by m (rest ++ known) + w ≡ sum_by m (old ++ known)
+taken_less m w old rest known h =
+    let a = sum_by-append m rest known in
+    let b = sum_by-append m old known in
+    omega (arith, a, b, h)
+
 module _ (nodes : List Tree) (f : ℕ) (old rest : List Part) (x : Part) (takes : Takes old rest x) where
   pub whole_there : AreParts nodes old → IsPart nodes x
   whole_there h =
@@ -335,52 +364,33 @@ module _ (nodes : List Tree) (f : ℕ) (old rest : List Part) (x : Part) (takes 
   pub rest_there : AreParts nodes old → AreParts nodes rest
   rest_there h p k = h p (takes.from p k)
 
-  pub takes_balance : Balances nodes f old ↔ BalancesWith nodes f x rest
-  takes_balance = (
-    (λ h t. takes.left_less (holds nodes f t) ∙ h t ∙ sym (takes.right_less (holds nodes f t))),
-    (λ h t. sym (takes.left_less (holds nodes f t)) ∙ h t ∙ takes.right_less (holds nodes f t)),
-  )
+  pub takes_balance : (known : List Part) → Balances nodes f (old ++ known) ↔ BalancesWith nodes f x (rest ++ known)
+  takes_balance known = ((λ h t. left t ∙ h t ∙ sym (right t)), (λ h t. sym (left t) ∙ h t ∙ right t))
+    where
+      left : (t : Tree) → left_sum (holds nodes f t) (rest ++ known) + x.left * holds nodes f t x.number ≡ left_sum (holds nodes f t) (old ++ known)
+      left t = taken_less (λ (p : Part). p.left * holds nodes f t p.number) (x.left * holds nodes f t x.number) old rest known (takes.left_less (holds nodes f t))
 
-  pub stops_balance : IsOnce nodes → AreParts nodes old → IsAbove x rest → Stops nodes f x → Balances nodes f old → ⊥
-  stops_balance once all above stops h =
-      let t = tree_at nodes x.number in
-      let g : ℕ → ℕ = holds nodes f t in
-      let is = whole_there all in
-      let absent : (p : Part) → Contains rest p → g p.number ≡ 0 = λ p k.
-      let size = (rest_there all p k).size in
-      let there = (rest_there all p k).there in
-      let own = is.size in
-      let less = (above p k).0 in
-      leaf_other f t (tree_at nodes p.number) (omega (arith, size, own, less))
-      (λ e. (above p k).1 (once p.number x.number t (tree_named nodes p.number there ∙ ap Some (sym e)) (tree_named nodes x.number is.there))) in
-      let one : g x.number ≡ 1 = ap (ones t) stops.leaf ∙ (let k = one_itself t in omega (arith, k)) in
-      let l = no_left g rest absent in
-      let r = no_right g rest absent in
-      let e = takes_balance.0 h t in
-      let a : x.left * g x.number ≡ x.left = ap (λ n. x.left * n) one ∙ omega arith in
-      let b : x.right * g x.number ≡ x.right = ap (λ n. x.right * n) one ∙ omega arith in
-      stops.differs (omega (arith, l, r, e, a, b))
+      right : (t : Tree) → right_sum (holds nodes f t) (rest ++ known) + x.right * holds nodes f t x.number ≡ right_sum (holds nodes f t) (old ++ known)
+      right t = taken_less (λ (p : Part). p.right * holds nodes f t p.number) (x.right * holds nodes f t x.number) old rest known (takes.right_less (holds nodes f t))
 
-pub balance_first : (nodes : List Tree) (f a b : ℕ) (none middle new : List Part) → none ≡ [] → Adds nodes a 1 0 none middle → Adds nodes b 0 1 middle new
-    → Balances nodes f new ↔ ((t : Tree) → ones t (leaves f (tree_at nodes a)) ≡ ones t (leaves f (tree_at nodes b)))
-balance_first nodes f a b empty middle new is one two =
+pub balance_first : (nodes : List Tree) (f a b : ℕ) (none middle new known between noted : List Part) → none ≡ [] → known ≡ []
+    → Adds nodes f a 1 0 none middle known between → Adds nodes f b 0 1 middle new between noted
+    → Balances nodes f (new ++ noted) ↔ ((t : Tree) → ones t (leaves f (tree_at nodes a)) ≡ ones t (leaves f (tree_at nodes b)))
+balance_first nodes f a b empty middle new known between noted is bare one two =
     ((λ h t. let x = h t in let y = left t in let z = right t in omega (arith, x, y, z)), (λ h t. let x = h t in let y = left t in let z = right t in omega (arith, x, y, z)))
   where
-    left : (t : Tree) → left_sum (holds nodes f t) new ≡ holds nodes f t a
+    left : (t : Tree) → left_sum (holds nodes f t) (new ++ noted) ≡ holds nodes f t a
     left t =
         let g : ℕ → ℕ = holds nodes f t in
-        let x = one.left_more g in let y = two.left_more g in let z = ap (left_sum g) is in omega (arith, x, y, z)
+        let x = one.left_more g in let y = two.left_more g in let z = ap (λ ps. left_sum g (ps ++ known)) is ∙ ap (left_sum g) bare in omega (arith, x, y, z)
 
-    right : (t : Tree) → right_sum (holds nodes f t) new ≡ holds nodes f t b
+    right : (t : Tree) → right_sum (holds nodes f t) (new ++ noted) ≡ holds nodes f t b
     right t =
         let g : ℕ → ℕ = holds nodes f t in
-        let x = one.right_more g in let y = two.right_more g in let z = ap (right_sum g) is in omega (arith, x, y, z)
+        let x = one.right_more g in let y = two.right_more g in let z = ap (λ ps. right_sum g (ps ++ known)) is ∙ ap (right_sum g) bare in omega (arith, x, y, z)
 
-pub none_parts : (nodes : List Tree) (ps : List Part) → ps ≡ [] → AreParts nodes ps
-none_parts nodes ps e p h = let k = h.1 in let l = ap length e in absurd (omega (arith, k, l))
-
-pub balance_none : (nodes : List Tree) (f : ℕ) (ps : List Part) → ps ≡ [] → Balances nodes f ps
-balance_none nodes f ps e t = ap (left_sum (holds nodes f t)) e ∙ sym (ap (right_sum (holds nodes f t)) e)
+pub none_there : {X : Type 0} (P : X → Type 0) (xs : List X) → xs ≡ [] → (x : X) → Contains xs x → P x
+none_there P xs e x h = let k = h.1 in let l = ap length e in absurd (omega (arith, k, l))
 
 pub not_marked : (b : Bool) → not b ≡ true → b ≡ false
 not_marked true e = absurd (cc)

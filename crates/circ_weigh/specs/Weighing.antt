@@ -2,7 +2,7 @@
 use Rattle.std.specs.declared.cmp.Ordering.{Ordering}
 use Rattle.std.specs.Ordering.{nat_cmp, ordering_then}
 use Rattle.std.specs.BinaryHeap.{IsUpperBound}
-use Rattle.std.specs.Prelude.{◌≡◌, ◌⊎◌, ◌↔◌, ℕ, ◌+◌, ◌*◌, ◌<◌, ◌≤◌, cond, List, [], ◌∷◌, length, Option, Some, None}
+use Rattle.std.specs.Prelude.{◌≡◌, ◌⊎◌, ◌↔◌, ℕ, ◌+◌, ◌*◌, ◌<◌, ◌≤◌, ◌==◌, cond, List, [], ◌∷◌, ◌++◌, length, Option, Some, None}
 use Rattle.std.specs.List.{sum_by, Contains}
 use Rattle.circ_term.specs.Tree.{Tree, App, none, more, size_of}
 use Rattle.circ_term.specs.Order.{is_same}
@@ -47,12 +47,21 @@ pub record IsPart (nodes : List Tree) (p : Part) : Type 0 where
 abbrev pub AreParts : (nodes : List Tree) → List Part → Type 0
 AreParts nodes ps = (p : Part) → Contains ps p → IsPart nodes p
 
--- one part more
-pub record Adds (nodes : List Tree) (number left right : ℕ) (old new : List Part) : Type 0 where
-  pub left_more : (g : ℕ → ℕ) → left_sum g new ≡ left * g number + left_sum g old
-  pub right_more : (g : ℕ → ℕ) → right_sum g new ≡ right * g number + right_sum g old
-  pub size_more : size_sum new ≡ size_of (tree_at nodes number) + size_sum old
+-- the term is there, and is a leaf
+pub record IsLeafPart (nodes : List Tree) (f : ℕ) (p : Part) : Type 0 where
+  pub there : p.number < length nodes
+  pub alone : leaves f (tree_at nodes p.number) ≡ tree_at nodes p.number ∷ []
+
+abbrev pub AreLeafParts : (nodes : List Tree) (f : ℕ) → List Part → Type 0
+AreLeafParts nodes f ps = (p : Part) → Contains ps p → IsLeafPart nodes f p
+
+-- one part more, among the sums (old, new) or among the leaves (known, noted)
+pub record Adds (nodes : List Tree) (f number left right : ℕ) (old new known noted : List Part) : Type 0 where
+  pub left_more : (g : ℕ → ℕ) → left_sum g (new ++ noted) ≡ left * g number + left_sum g (old ++ known)
+  pub right_more : (g : ℕ → ℕ) → right_sum g (new ++ noted) ≡ right * g number + right_sum g (old ++ known)
+  pub size_more : size_sum new ≤ size_of (tree_at nodes number) + size_sum old
   pub parts : AreParts nodes old → AreParts nodes new
+  pub lone : AreLeafParts nodes f known → AreLeafParts nodes f noted
 
 -- the greatest part is taken out, with all of its number
 pub record Takes (old new : List Part) (x : Part) : Type 0 where
@@ -93,12 +102,22 @@ TellsTwo nodes f t None = leaves f t ≡ t ∷ []
 TellsTwo nodes f t (Some p) = (s : ℕ) × (t ≡ App f s (more (tree_at nodes p.0) (more (tree_at nodes p.1) none))) × (p.0 < length nodes) × (p.1 < length nodes)
 
 -- the part was gone on with
-pub record StepsOn (nodes : List Tree) (f : ℕ) (x : Part) (old new : List Part) : Type 0 where
-  pub balance : Balances nodes f new ↔ BalancesWith nodes f x old
+pub record StepsOn (nodes : List Tree) (f : ℕ) (x : Part) (old new known noted : List Part) : Type 0 where
+  pub balance : Balances nodes f (new ++ noted) ↔ BalancesWith nodes f x (old ++ known)
   pub parts : AreParts nodes old → AreParts nodes new
+  pub lone : AreLeafParts nodes f known → AreLeafParts nodes f noted
   pub falls : x.size ≡ size_of (tree_at nodes x.number) → size_sum new < size_sum old + x.size
 
--- the part is a leaf that does not weigh the same on both sides
-pub record Stops (nodes : List Tree) (f : ℕ) (x : Part) : Type 0 where
-  pub leaf : leaves f (tree_at nodes x.number) ≡ tree_at nodes x.number ∷ []
-  pub differs : x.left ≡ x.right → ⊥
+-- both sides weigh the same, whatever each number counts
+abbrev pub BalancesOut : List Part → Type 0
+BalancesOut ps = (g : ℕ → ℕ) → left_sum g ps ≡ right_sum g ps
+
+-- the number n counts one, and no other counts
+abbrev pub only : ℕ → ℕ → ℕ
+only n m = cond (n == m) 1 0
+
+-- the number of a part does not weigh the same on both sides
+pub record Tilts (ps : List Part) : Type 0 where
+  pub part : Part
+  pub there : Contains ps part
+  pub differs : left_sum (only part.number) ps ≡ right_sum (only part.number) ps → ⊥

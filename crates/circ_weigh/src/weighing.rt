@@ -1,4 +1,4 @@
-//! Leaves weighed against each other, the largest terms first.
+//! Terms weighed against each other, the largest sums first.
 ghost use Rattle.std.specs.Prelude.{◌≡◌, ◌<◌, ◌↔◌, ◌∷◌, ◌+◌, [], IsTrue, IfOk, OnOk, OnErr, length};
 ghost use Rattle.std.specs.Bool.{OnTrue, OnFalse};
 ghost use Rattle.std.specs.BinaryHeap.{heap_items, IsHeap};
@@ -7,9 +7,10 @@ ghost use Rattle.circ_nodes.specs.Named.{tree_at};
 ghost use Rattle.circ_weigh.specs.Weighing.{ones, holds, Balances, BalancesWith, IsPart, AreParts};
 ghost use Rattle.circ_weigh.specs.Weighing.{Adds, Takes, IsAbove, TakesWhole, size_sum};
 ghost use Rattle.circ_aci.specs.Content.{leaves};
-ghost use Rattle.circ_weigh.specs.Weighing.{part_cmp, IsPast, Agree, StepsOn, Stops, TellsTwo};
+ghost use Rattle.circ_weigh.specs.Weighing.{part_cmp, IsPast, Agree, StepsOn, TellsTwo};
 ghost use Rattle.std.specs.Prelude.{slice_index_or};
 
+use crate::runs::balances_out;
 use circ_nodes::{Nodes, Shape};
 use std::alloc::{AllocError, Global};
 use std::collections::BinaryHeap;
@@ -37,42 +38,41 @@ pub(crate) fn weigh(
         ones t (leaves op (tree_at nodes.now a)) ≡ ones t (leaves op (tree_at nodes.now b)))) }
 {
     nodes.known();
-    let mut parts = BinaryHeap::new(alloc);
-    push(nodes, &mut parts, a, 1, 0)?;
-    push(nodes, &mut parts, b, 0, 1)?;
-    while let Some(whole) = take(&mut parts)? {
-        if !step(nodes, op, &mut parts, whole)? {
-            return Ok(false);
-        }
+    let mut sums = BinaryHeap::new(alloc);
+    let mut leaves = Vec::new(alloc);
+    note(nodes, op, &mut sums, &mut leaves, a, 1, 0)?;
+    note(nodes, op, &mut sums, &mut leaves, b, 0, 1)?;
+    while let Some(whole) = take(&mut sums)? {
+        step(nodes, op, &mut sums, &mut leaves, whole)?;
     }
-    Ok(true)
+    balances_out(leaves)
 }
 
-// Goes on with the two arguments of a sum, where the weights differ. False where it is a leaf then.
+// Goes on with the two arguments of a sum, where the weights differ.
 fn step(
     nodes: &Nodes,
     op: u32,
-    parts: &mut BinaryHeap<Part>,
+    sums: &mut BinaryHeap<Part>,
+    leaves: &mut Vec<Part>,
     whole: Part,
-) -> Result<bool, AllocError>
+) -> Result<(), AllocError>
     requires there { whole.number < length nodes.now }
-    ensures heap { IsHeap part_cmp (heap_items parts.old)
-        → OnOk result (IsHeap part_cmp (heap_items parts.new)) }
-    ensures on { IfOk result (λ b. OnTrue b
-        (StepsOn nodes.now op whole (heap_items parts.old) (heap_items parts.new))) }
-    ensures stops { IfOk result (λ b. OnFalse b (Stops nodes.now op whole)) }
+    ensures heap { IsHeap part_cmp (heap_items sums.old)
+        → OnOk result (IsHeap part_cmp (heap_items sums.new)) }
+    ensures on { OnOk result (StepsOn nodes.now op whole
+        (heap_items sums.old) (heap_items sums.new) leaves.old.items leaves.new.items) }
 {
     if whole.left == whole.right {
-        return Ok(true);
+        return Ok(());
     }
     match operands(nodes, op, whole.number) {
         Some((first, second)) => {
-            push(nodes, parts, first, whole.left, whole.right)?;
-            push(nodes, parts, second, whole.left, whole.right)?;
-            Ok(true)
+            note(nodes, op, sums, leaves, first, whole.left, whole.right)?;
+            note(nodes, op, sums, leaves, second, whole.left, whole.right)?;
         }
-        None => Ok(false),
+        None => leaves.push(whole)?,
     }
+    Ok(())
 }
 
 // The two arguments of the operator, where it is the operator of the term of a number.
@@ -94,26 +94,33 @@ fn operands(nodes: &Nodes, op: u32, number: u32) -> Option<(u32, u32)>
     }
 }
 
-fn push(
+// Notes a term among the sums or among the leaves.
+fn note(
     nodes: &Nodes,
-    parts: &mut BinaryHeap<Part>,
+    op: u32,
+    sums: &mut BinaryHeap<Part>,
+    leaves: &mut Vec<Part>,
     number: u32,
     left: u64,
     right: u64,
 ) -> Result<(), AllocError>
     requires { number < length nodes.now }
-    ensures heap { IsHeap part_cmp (heap_items parts.old)
-        → OnOk result (IsHeap part_cmp (heap_items parts.new)) }
-    ensures adds { OnOk result
-        (Adds nodes.now number left right (heap_items parts.old) (heap_items parts.new)) }
+    ensures heap { IsHeap part_cmp (heap_items sums.old)
+        → OnOk result (IsHeap part_cmp (heap_items sums.new)) }
+    ensures adds { OnOk result (Adds nodes.now op number left right
+        (heap_items sums.old) (heap_items sums.new) leaves.old.items leaves.new.items) }
 {
     let size = nodes.size(number);
-    parts.push(Part {
+    let part = Part {
         size,
         number,
         left,
         right,
-    })?;
+    };
+    match operands(nodes, op, number) {
+        Some(_) => sums.push(part)?,
+        None => leaves.push(part)?,
+    }
     Ok(())
 }
 
@@ -149,7 +156,7 @@ fn is_next(parts: &BinaryHeap<Part>, number: u32) -> bool
     }
 }
 
-fn sum(a: u64, b: u64) -> Result<u64, AllocError>
+pub(crate) fn sum(a: u64, b: u64) -> Result<u64, AllocError>
     ensures { IfOk result (λ n. n ≡ a + b) }
 {
     match a.checked_add(b) {
