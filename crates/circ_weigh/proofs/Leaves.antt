@@ -68,8 +68,8 @@ run_turns all rest run x is even = record {
   least = λ differs p h. first_least x rest is.sorted p h;
 }
 
-run_differs : (all rest : List Part) (run : Part) → SumsUp all rest run → (run.left ≡ run.right → ⊥) → ((p : Part) → Contains rest p → p.number ≡ run.number → ⊥) → Tilts all
-run_differs all rest run is differs past =
+pub run_stops : (all rest : List Part) (run x : Part) → SumsUp all (x ∷ rest) run → (x.number ≡ run.number → ⊥) → (run.left ≡ run.right → ⊥) → Tilts all
+run_stops all rest run x is other differs =
     let held = is.held differs in
     let n : ℕ = held.0.number in
     let g : ℕ → ℕ = only n in
@@ -77,15 +77,12 @@ run_differs all rest run is differs past =
     let one = only_itself n run.number held.2 in
     let a = all_of run.left (g run.number) one in
     let b = all_of run.right (g run.number) one in
-    let absent : (p : Part) → Contains rest p → g p.number ≡ 0 = λ p h. only_other n p.number (λ e. past p h (sym e ∙ held.2)) in
-    let l = sum_none (λ (p : Part). p.left * g p.number) rest (λ p h. none_of p.left (g p.number) (absent p h)) in
-    let r = sum_none (λ (p : Part). p.right * g p.number) rest (λ p h. none_of p.right (g p.number) (absent p h)) in
-    record { part = held.0; there = held.1; differs = λ e. differs (omega (arith, k, a, b, l, r, e)) }
-
-pub run_stops : (all rest : List Part) (run x : Part) → SumsUp all (x ∷ rest) run → (x.number ≡ run.number → ⊥) → (run.left ≡ run.right → ⊥) → Tilts all
-run_stops all rest run x is other differs = run_differs all (x ∷ rest) run is differs (λ p h e.
     let here = is.least differs x (first_there x rest) in
-    other (omega (arith, here, within p h, e)))
+    let past : (p : Part) → Contains (x ∷ rest) p → p.number ≡ run.number → ⊥ = λ p h e. other (omega (arith, here, within p h, e)) in
+    let absent : (p : Part) → Contains (x ∷ rest) p → g p.number ≡ 0 = λ p h. only_other n p.number (λ e. past p h (sym e ∙ held.2)) in
+    let l = sum_none (λ (p : Part). p.left * g p.number) (x ∷ rest) (λ p h. none_of p.left (g p.number) (absent p h)) in
+    let r = sum_none (λ (p : Part). p.right * g p.number) (x ∷ rest) (λ p h. none_of p.right (g p.number) (absent p h)) in
+    record { part = held.0; there = held.1; differs = λ e. differs (omega (arith, k, a, b, l, r, e)) }
   where
     within : (p : Part) → Contains (x ∷ rest) p → x.number ≤ p.number
     within p (k, there, e) = let a = is.sorted 0 k p (omega arith) there in let b = ap (λ (q : Part). q.number) e in omega (arith, a, b)

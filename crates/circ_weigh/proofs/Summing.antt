@@ -1,4 +1,4 @@
--- Leaves of sums, and what stands in no other part.
+-- Leaves of sums, and the parts that are noted, taken and gone on with.
 use Rattle.std.proofs.Common.{◌≡◌, ◌↔◌, ℕ, ◌+◌, ◌*◌, ◌<◌, ◌≤◌, Bool, true, false, cond, ◌==◌, ◌&&◌, not, if◌then◌else◌, List, [], ◌∷◌, ◌++◌, length, refl, sym, ap, subst, ◌∙◌, arith, inl, inr}
 use Rattle.std.specs.List.{Contains, AllByRecursion, sum_by}
 use Rattle.std.proofs.lemmas.Bool.{eqb-true, eq-eqb}
@@ -32,10 +32,6 @@ two f s a b = App f s (more a (more b none))
 
 pub leaves_two : (f s : ℕ) (a b : Tree) → leaves f (two f s a b) ≡ leaves f a ++ leaves f b
 leaves_two f s a b = rw (eq-eqb f f refl) refl
-
--- another term is its own leaf
-abbrev pub IsLeaf : (f : ℕ) → Tree → Type 0
-IsLeaf f t = leaves f t ≡ t ∷ []
 
 one_other : (t u : Tree) → (t ≡ u → ⊥) → one t u ≡ 0
 one_other t u other = go (is_same t u) refl
