@@ -1,11 +1,11 @@
 //! Terms weighed against each other, the largest sums first.
-ghost use Rattle.std.specs.Prelude.{◌≡◌, ◌<◌, ◌↔◌, ◌∷◌, ◌+◌, [], IsTrue, IfOk, OnOk, OnErr, length};
+ghost use Rattle.std.specs.Prelude.{◌≡◌, ◌<◌, ◌↔◌, ◌+◌, IsTrue, IfOk, OnOk, length};
 ghost use Rattle.std.specs.Bool.{OnTrue, OnFalse};
 ghost use Rattle.std.specs.BinaryHeap.{heap_items, IsHeap};
 ghost use Rattle.circ_term.specs.Tree.{Tree};
 ghost use Rattle.circ_nodes.specs.Named.{tree_at};
-ghost use Rattle.circ_weigh.specs.Weighing.{ones, holds, Balances, BalancesWith, IsPart, AreParts};
-ghost use Rattle.circ_weigh.specs.Weighing.{Adds, Takes, IsAbove, TakesWhole, size_sum};
+ghost use Rattle.circ_weigh.specs.Weighing.{ones};
+ghost use Rattle.circ_weigh.specs.Weighing.{Adds, TakesWhole};
 ghost use Rattle.circ_aci.specs.Content.{leaves};
 ghost use Rattle.circ_weigh.specs.Weighing.{part_cmp, IsPast, Agree, StepsOn, TellsTwo};
 ghost use Rattle.std.specs.Prelude.{slice_index_or};
