@@ -1,12 +1,13 @@
--- A line that begins with a side is read as a link.
+-- A line that begins with a side is read as a link, one that begins with an application's letter as an operator at terms.
 use Rattle.std.specs.Prelude.{◌≡◌, ◌++◌, ℕ, List, true, Some, None, Result, Ok, Err, IfOk, codes, refl}
+use Rattle.std.specs.Global.{Vec}
 use Rattle.std.proofs.Common.{inl, inr}
 use Rattle.circ_proof.specs.Plain.{LinkOf}
-use Rattle.circ_line.specs.Line.{Line, left_line, right_line}
-use Rattle.circ_line.specs.Front.{rest_after}
-use Rattle.circ_line.specs.Read.{link_of}
+use Rattle.circ_line.specs.Line.{Line, table_line, Application_line, left_line, right_line}
+use Rattle.circ_line.specs.Front.{rest_after, then_whole}
+use Rattle.circ_line.specs.Read.{field_at, numbers_of, link_of}
 use Rattle.circ_line.specs.Plain.{ReadsLine}
-use Rattle.circ_line.proofs.OneText.{reads_left, reads_right}
+use Rattle.circ_line.proofs.OneText.{reads_left, reads_right, reads_application}
 use Rattle.circ_grammar.specs.Grammar.{is_bare}
 use Rattle.circ_file.specs.Lines.{Handles, ReadsNext}
 use Rattle.circ_file.specs.declared.taken.Taken.{Taken}
@@ -44,3 +45,30 @@ left_unread r s rest same bytes w e = inl (reads_left bytes rest None e same)
 pub right_unread : (r s : LineReader) (rest : List ℕ) → None ≡ link_of rest → (bytes w : List ℕ) → None ≡ rest_after (codes "left ") bytes
     → Some rest ≡ rest_after (codes "right ") bytes → ReadsNext Refused w r bytes s
 right_unread r s rest same bytes w d e = inl (reads_right bytes rest None d e same)
+
+-- What becomes of a line does not depend on the arguments of the last application.
+other_args : (t : Taken) (w : List ℕ) (r s : LineReader) (args : Vec ℕ) (l : Line) → Handles t w (record r { args = args }) l s → Handles t w r l s
+other_args Yes w r s args l h = record {
+  next = h.next;
+  passes = h.passes;
+  within = h.within;
+  seen = h.seen;
+  queue = h.queue;
+  reader = h.reader;
+}
+other_args Refused w r s args l h = h
+other_args Limit w r s args l h = h
+
+pub application_read : {E : Type 0} (r s : LineReader) (rest : List ℕ) (op : ℕ) (args : Vec ℕ) → Some (op, args.items) ≡ then_whole field_at numbers_of rest
+    → (result : Result Taken E) → IfOk result (λ t. (w : List ℕ) → Handles t w (record r { args = args }) (table_line (Application_line op args.items)) s)
+    → IfOk result (λ t. (bytes w : List ℕ) → None ≡ rest_after (codes "left ") bytes → None ≡ rest_after (codes "right ") bytes
+    → Some rest ≡ rest_after (codes "a") bytes → ReadsNext t w r bytes s)
+application_read r s rest op args same (Ok t) h = λ bytes w d e f.
+    let l = table_line (Application_line op args.items) in
+    read_next t w r s bytes l (reads_application bytes rest (Some (op, args.items)) d e f same) (other_args t w r s args l (h w))
+application_read r s rest op args same (Err e) h = h
+
+pub application_unread : (r s : LineReader) (rest : List ℕ) → None ≡ then_whole field_at numbers_of rest → (bytes w : List ℕ)
+    → None ≡ rest_after (codes "left ") bytes → None ≡ rest_after (codes "right ") bytes → Some rest ≡ rest_after (codes "a") bytes
+    → ReadsNext Refused w r bytes s
+application_unread r s rest same bytes w d e f = inl (reads_application bytes rest None d e f same)

@@ -2,7 +2,7 @@
 ghost use Rattle.std.specs.Prelude.{◌≡◌, ◌==◌, ◌&&◌, List, ℕ, true, length, IfOk, [], codes};
 ghost use Rattle.std.specs.Prelude.{Some, None};
 ghost use Rattle.circ_line.specs.Front.{rest_after};
-ghost use Rattle.circ_line.specs.Line.{table_line, goal_line, given_line};
+ghost use Rattle.circ_line.specs.Line.{table_line, Application_line, goal_line, given_line};
 ghost use Rattle.circ_line.specs.Line.{certificate_line, block_line, left_line, right_line};
 ghost use Rattle.circ_line.specs.Text.{IsInRange};
 ghost use Rattle.circ_line.specs.Plain.{plain_line, plain_table_line};
@@ -22,7 +22,10 @@ use crate::machine::Machine;
 use crate::table::ReadTable;
 use crate::taken::Taken;
 use crate::{MOST_CONDITIONS, MOST_PROOF_STEPS, MOST_SPLITS};
-use circ_line::{Line, TableLine, after_left, after_right, read_line, read_link};
+use circ_line::{
+    Line, TableLine, after_application, after_left, after_right, read_application, read_line,
+    read_link,
+};
 use circ_proof::Link;
 use circ_theory::Theory;
 use std::alloc::{AllocError, Global};
@@ -35,6 +38,9 @@ pub(crate) struct LineReader<'a> {
     pub(crate) machine: Machine,
     table: ReadTable,
     pub(crate) counts: Counts,
+    // The arguments of the last application. Those of the next one take their place, so that no
+    // list is made for a line of the table.
+    args: Vec<u32>,
 }
 
 impl<'a> LineReader<'a> {
@@ -52,6 +58,7 @@ impl<'a> LineReader<'a> {
             machine: Machine::new(alloc),
             table: ReadTable::new(alloc),
             counts: Counts::new(),
+            args: Vec::new(alloc),
         }
     }
 
@@ -69,6 +76,9 @@ impl<'a> LineReader<'a> {
         }
         if let Some(rest) = after_right(bytes) {
             return self.read_right(rest);
+        }
+        if let Some(rest) = after_application(bytes) {
+            return self.read_application(rest);
         }
         self.read_other(bytes)
     }
@@ -100,6 +110,23 @@ impl<'a> LineReader<'a> {
         let read = read_link(self.alloc, rest)?;
         match read {
             Some(link) => self.take_right(link),
+            None => Ok(Taken::Line),
+        }
+    }
+
+    // A line of which these are the bytes after an application's letter.
+    fn read_application(&mut self, rest: &[u8]) -> Result<Taken, AllocError>
+        requires { IsReader self.old }
+        ensures theory { self.new.theory.now ≡ self.old.theory.now }
+        ensures read { IfOk result (λ taken. (bytes wanted : List ℕ) →
+            None ≡ rest_after (codes "left ") bytes →
+            None ≡ rest_after (codes "right ") bytes →
+            Some rest.now ≡ rest_after (codes "a") bytes →
+            ReadsNext taken wanted self.old bytes self.new) }
+    {
+        let read = read_application(&mut self.args, rest)?;
+        match read {
+            Some(op) => self.take_application(op),
             None => Ok(Taken::Line),
         }
     }
@@ -196,6 +223,21 @@ impl<'a> LineReader<'a> {
             return Ok(Taken::Line);
         }
         let taken = self.table.add(self.theory, line)?;
+        Ok(taken)
+    }
+
+    // An operator at the last arguments that were read.
+    fn take_application(&mut self, op: u32) -> Result<Taken, AllocError>
+        requires { IsReader self.old }
+        ensures theory { self.new.theory.now ≡ self.old.theory.now }
+        ensures taken { IfOk result (λ taken. (wanted : List ℕ) → Handles taken wanted self.old
+            (table_line (Application_line op self.old.args.items)) self.new) }
+    {
+        if !self.machine.on_table() {
+            return Ok(Taken::Line);
+        }
+        let args = self.args.as_slice();
+        let taken = self.table.add_application(self.theory, op, args)?;
         Ok(taken)
     }
 

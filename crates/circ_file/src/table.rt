@@ -61,6 +61,24 @@ impl ReadTable {
         }
     }
 
+    /// Takes an operator at the terms of these numbers, likewise.
+    pub(crate) fn add_application(
+        &mut self,
+        theory: &Theory,
+        op: u32,
+        args: &[u32],
+    ) -> Result<Taken, AllocError>
+        requires { is_open self.old ≡ true }
+        ensures added { IfOk result (λ taken. AddsLine theory.now.signature (terms_in self.old)
+            (Application_line op args.now) taken (terms_in self.new)) }
+        ensures state { is_open self.new ≡ true }
+    {
+        match self {
+            ReadTable::Open { rows } => add_application(rows, theory, op, args),
+            ReadTable::Closed { .. } => unreachable!(),
+        }
+    }
+
     /// The table, which takes no more lines. It is shared.
     pub(crate) fn close(&mut self, alloc: Global) -> Result<Table, AllocError>
         ensures table { IfOk result (λ t. t ≡ terms_in self.old) }

@@ -10,8 +10,8 @@ use Rattle.circ_proof.specs.Plain.{LinkOf, Equation_link, Hypothesis_link, Assum
 use Rattle.circ_line.specs.Line.{Variable_line, Application_line, Line, head_line, table_line, place_line, certificate_line, block_line, goal_line, given_line, simplify_line, reduce_line, derive_line, cases_line, done_line, same_line, split_line, if_line, left_line, right_line, end_line}
 use Rattle.circ_line.specs.Text.{joined, path_word, way_word, link_words, line_words, line_text, AreNumbers, IsPathInRange, IsLinkInRange, IsInRange}
 use Rattle.std.specs.Option.{option_map}
-use Rattle.circ_line.specs.Front.{rest_after, after_or}
-use Rattle.circ_line.specs.Read.{link_of, application_of, short_line, line_of}
+use Rattle.circ_line.specs.Front.{rest_after, then_whole, after_or}
+use Rattle.circ_line.specs.Read.{field_at, numbers_of, link_of, to_application, application_of, short_line, line_of}
 use Rattle.circ_line.specs.Plain.{ReadsLine, OneText, NoFeed, NoFeedWithin}
 use Rattle.circ_line.proofs.LineTexts.{line_gives, line_again}
 
@@ -44,6 +44,15 @@ pub reads_right : (bytes rest : List ℕ) (o : Option (LinkOf ℕ)) → None ≡
 reads_right bytes rest o d e same =
     reads bytes (option_map right_line o)
     (ap (option_map right_line) same ∙ ap (λ x. after_or x (λ r. option_map right_line (link_of r)) (no_link bytes)) e
+    ∙ ap (λ x. after_or x (λ r. option_map left_line (link_of r)) (no_left bytes)) d)
+
+-- what is read of the bytes after an application's letter is the line's operator and arguments
+pub reads_application : (bytes rest : List ℕ) (o : Option (ℕ × List ℕ)) → None ≡ rest_after (codes "left ") bytes → None ≡ rest_after (codes "right ") bytes
+    → Some rest ≡ rest_after (codes "a") bytes → o ≡ then_whole field_at numbers_of rest → ReadsLine bytes (option_map to_application o)
+reads_application bytes rest o d e f same =
+    reads bytes (option_map to_application o)
+    (ap (option_map to_application) same ∙ ap (λ x. after_or x application_of (short_line bytes)) f
+    ∙ ap (λ x. after_or x (λ r. option_map right_line (link_of r)) (no_link bytes)) e
     ∙ ap (λ x. after_or x (λ r. option_map left_line (link_of r)) (no_left bytes)) d)
 
 feed-append : (a b : List ℕ) → NoFeed a → NoFeed b → NoFeed (a ++ b)

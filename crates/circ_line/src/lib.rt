@@ -1,7 +1,8 @@
 //! The text of one line of a proof file, read and written.
 //!
-//! [`read_line`] gives the one line that bytes are the text of, and [`read_link`] the link of a line
-//! that begins with a side ([`after_left`], [`after_right`]). [`write_line`] appends the text of a
+//! [`read_line`] gives the one line that bytes are the text of, [`read_link`] the link of a line
+//! that begins with a side ([`after_left`], [`after_right`]), and [`read_application`] an operator
+//! of the table with its arguments ([`after_application`]). [`write_line`] appends the text of a
 //! line, and [`write_lent_line`] that of a line whose parts are lent. Contracts see a line as
 //! plain data (`Line` of specs/), in which numbers stand for terms. In what order lines stand is
 //! said in circ_grammar.
@@ -18,7 +19,9 @@ mod writing;
 
 pub use lent::{LentLine, write_lent_line};
 pub use line::{Line, TableLine};
-pub use reading::{after_left, after_right, read_line, read_link};
+pub use reading::{
+    after_application, after_left, after_right, read_application, read_line, read_link,
+};
 pub use writing::write_line;
 
 /// Numbers of a line are below this.

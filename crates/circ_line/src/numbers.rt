@@ -1,7 +1,8 @@
 //! Numbers at the front of bytes.
-ghost use Rattle.std.specs.Prelude.{◌≡◌, ◌<◌, ◌≤◌, ◌^◌, IfOk, IfSome};
+ghost use Rattle.std.specs.Prelude.{◌≡◌, ◌<◌, ◌≤◌, ◌^◌, if◌then◌else◌, Some, None};
+ghost use Rattle.std.specs.Prelude.{IfOk, IfSome};
 ghost use Rattle.std.specs.Option.{option_map};
-ghost use Rattle.circ_line.specs.Front.{rest_after, digits_at, number_at, marked, items_at, is_end};
+ghost use Rattle.circ_line.specs.Front.{rest_after, digits_at, number_at, marked, is_end};
 ghost use Rattle.circ_line.specs.Read.{field_at, numbers_of, number_of, pair_of};
 
 use crate::NUMBERS;
@@ -86,24 +87,25 @@ pub(crate) fn pair_of(bytes: &[u8]) -> Option<(u32, u32)>
 pub(crate) fn numbers_of(alloc: Global, bytes: &[u8]) -> Result<Option<Vec<u32>>, AllocError>
     ensures { IfOk result (λ o. option_map (λ v. v.items) o ≡ numbers_of bytes.now) }
 {
-    let (numbers, rest) = numbers_at(alloc, bytes)?;
-    if !is_end(rest) {
+    let mut numbers = Vec::new(alloc);
+    if !fill_numbers(&mut numbers, bytes)? {
         return Ok(None);
     }
     Ok(Some(numbers))
 }
 
-/// As many numbers as there are, a space before each, with the bytes after them.
-fn numbers_at(alloc: Global, bytes: &[u8]) -> Result<(Vec<u32>, &[u8]), AllocError>
-    ensures { IfOk result (λ r. (r.0.items, r.1.now) ≡ items_at field_at bytes.now) }
+/// The same. They go into a list, in the place of what it held; or there are others after them.
+pub(crate) fn fill_numbers(numbers: &mut Vec<u32>, bytes: &[u8]) -> Result<bool, AllocError>
+    ensures { IfOk result (λ whole.
+        (if whole then Some numbers.new.items else None) ≡ numbers_of bytes.now) }
 {
-    let mut out = Vec::new(alloc);
+    numbers.clear();
     let mut rest = bytes;
     while let Some((number, more)) = field_at(rest) {
-        out.push(number)?;
+        numbers.push(number)?;
         rest = more;
     }
-    Ok((out, rest))
+    Ok(is_end(rest))
 }
 
 /// The bytes after a text that they begin with.

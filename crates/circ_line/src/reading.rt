@@ -2,7 +2,8 @@
 ghost use Rattle.std.specs.Prelude.{◌≡◌, IfOk, codes};
 ghost use Rattle.std.specs.Option.{option_map};
 ghost use Rattle.circ_proof.specs.Plain.{plain_link};
-ghost use Rattle.circ_line.specs.Front.{rest_after, after_or};
+ghost use Rattle.circ_line.specs.Front.{rest_after, then_whole, after_or};
+ghost use Rattle.circ_line.specs.Read.{field_at, numbers_of};
 ghost use Rattle.circ_line.specs.Read.{link_of, line_of, application_of, short_line, head_of};
 ghost use Rattle.circ_line.specs.Read.{frame_lines, first_of, word_line, pair_of, number_of};
 ghost use Rattle.circ_line.specs.Read.{to_variable, to_goal, to_given, to_place, to_split};
@@ -11,7 +12,7 @@ ghost use Rattle.circ_line.specs.Plain.{plain_line, ReadsLine};
 
 use crate::line::{Line, TableLine};
 use crate::links::link_of;
-use crate::numbers::{after_text, field_at, number_of, numbers_of, pair_of};
+use crate::numbers::{after_text, field_at, fill_numbers, number_of, pair_of};
 use circ_proof::Link;
 use std::alloc::{AllocError, Global};
 
@@ -37,6 +38,30 @@ pub fn after_right(bytes: &[u8]) -> Option<&[u8]>
     after_text(bytes, b"right ")
 }
 
+/// The bytes of a line after what each application of the table begins with. No other line's text
+/// begins so.
+pub fn after_application(bytes: &[u8]) -> Option<&[u8]>
+    ensures { option_map (λ r. r.now) result ≡ rest_after (codes "a") bytes.now }
+{
+    after_text(bytes, b"a")
+}
+
+/// The operator of an application, of which these are the bytes after its letter. The numbers of
+/// its arguments go into a list, in the place of what it held, so that none is made for the line.
+/// Where no operator is answered the list holds as many as were read.
+pub fn read_application(args: &mut Vec<u32>, bytes: &[u8]) -> Result<Option<u32>, AllocError>
+    ensures { IfOk result (λ o. option_map (λ op. (op, args.new.items)) o ≡
+        then_whole field_at numbers_of bytes.now) }
+{
+    let Some((op, rest)) = field_at(bytes) else {
+        return Ok(None);
+    };
+    if !fill_numbers(args, rest)? {
+        return Ok(None);
+    }
+    Ok(Some(op))
+}
+
 /// The link of a line, of which these are the bytes after its side. It is not moved into a `Line`.
 pub fn read_link(alloc: Global, bytes: &[u8]) -> Result<Option<Link>, AllocError>
     ensures { IfOk result (λ o. option_map plain_link o ≡ link_of bytes.now) }
@@ -53,7 +78,7 @@ fn line_of(alloc: Global, bytes: &[u8]) -> Result<Option<Line>, AllocError>
     if let Some(rest) = after_right(bytes) {
         return Ok(link_of(alloc, rest)?.map(|link| Line::Right { link }));
     }
-    match after_text(bytes, b"a") {
+    match after_application(bytes) {
         Some(rest) => application_of(alloc, rest),
         None => Ok(short_line(bytes)),
     }
@@ -63,10 +88,8 @@ fn line_of(alloc: Global, bytes: &[u8]) -> Result<Option<Line>, AllocError>
 fn application_of(alloc: Global, bytes: &[u8]) -> Result<Option<Line>, AllocError>
     ensures { IfOk result (λ o. option_map plain_line o ≡ application_of bytes.now) }
 {
-    let Some((op, rest)) = field_at(bytes) else {
-        return Ok(None);
-    };
-    let Some(args) = numbers_of(alloc, rest)? else {
+    let mut args = Vec::new(alloc);
+    let Some(op) = read_application(&mut args, bytes)? else {
         return Ok(None);
     };
     Ok(Some(Line::Table {
