@@ -1,6 +1,6 @@
 //! A reader that is fed the bytes of a proof, and hands out its parts.
 ghost use Rattle.std.specs.Prelude.{◌≡◌, ◌++◌, ◌+◌, ◌-◌, ◌<◌, ◌≤◌};
-ghost use Rattle.std.specs.Prelude.{◌^◌, ◌∷◌, [], ℕ, List, length};
+ghost use Rattle.std.specs.Prelude.{◌^◌, ◌∷◌, [], ℕ, List, length, get_or};
 ghost use Rattle.std.specs.Prelude.{Some, None, Err, IfOk, OnOk, MatchOption, true, false};
 ghost use Rattle.circ_theory.specs.Theory.{Theory};
 ghost use Rattle.circ_line.specs.Plain.{NoFeed};
@@ -215,10 +215,33 @@ impl<'a> FileReader<'a> {
 fn next_line(bytes: &[u8]) -> Option<(&[u8], &[u8])>
     ensures { MatchOption result (NoFeed bytes.now) (λ r. IsCut bytes.now r.0.now r.1.now) }
 {
-    for i in 0..bytes.len() {
+    for i in eights_before_feed(bytes)..bytes.len() {
         if bytes[i] == b'\n' {
             return Some((&bytes[..i], &bytes[i + 1..]));
         }
     }
     None
+}
+
+/// How many bytes at the front come in eights without a line feed.
+fn eights_before_feed(bytes: &[u8]) -> usize
+    ensures within { result ≤ length bytes.now }
+    ensures free { (k : ℕ) → k < result → get_or bytes.now k 0 ≡ 10 → ⊥ }
+{
+    let mut i = 0;
+    while bytes.len() - i >= 8 {
+        if bytes[i] == b'\n'
+            || bytes[i + 1] == b'\n'
+            || bytes[i + 2] == b'\n'
+            || bytes[i + 3] == b'\n'
+            || bytes[i + 4] == b'\n'
+            || bytes[i + 5] == b'\n'
+            || bytes[i + 6] == b'\n'
+            || bytes[i + 7] == b'\n'
+        {
+            return i;
+        }
+        i += 8;
+    }
+    i
 }

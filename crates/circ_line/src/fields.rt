@@ -37,11 +37,11 @@ pub(crate) fn rule_at(alloc: Global, bytes: &[u8]) -> Result<Option<(Rule, &[u8]
 pub(crate) fn way_at(bytes: &[u8]) -> Option<(Way, &[u8])>
     ensures { option_map (λ r. (r.0, r.1.now)) result ≡ way_at bytes.now }
 {
-    if let Some(rest) = after_text(bytes, b" >") {
-        return Some((Way::Forth, rest));
+    match bytes {
+        [b' ', b'>', rest @ ..] => Some((Way::Forth, rest)),
+        [b' ', b'<', rest @ ..] => Some((Way::Back, rest)),
+        _ => None,
     }
-    let rest = after_text(bytes, b" <")?;
-    Some((Way::Back, rest))
 }
 
 /// The path, with the bytes after it.

@@ -1,7 +1,8 @@
 //! Links as text is read.
-ghost use Rattle.std.specs.Prelude.{◌≡◌, [], IfOk};
+ghost use Rattle.std.specs.Prelude.{◌≡◌, [], IfOk, codes};
 ghost use Rattle.std.specs.Option.{option_map};
 ghost use Rattle.circ_proof.specs.Plain.{plain_link};
+ghost use Rattle.circ_line.specs.Front.{rest_after};
 ghost use Rattle.circ_line.specs.Read.{link_of, instance_of, assumption_of, content_of};
 ghost use Rattle.circ_line.specs.Read.{to_equation, to_hypothesis};
 
@@ -15,10 +16,10 @@ use std::alloc::{AllocError, Global};
 pub(crate) fn link_of(alloc: Global, bytes: &[u8]) -> Result<Option<Link>, AllocError>
     ensures { IfOk result (λ o. option_map plain_link o ≡ link_of bytes.now) }
 {
-    if let Some(rest) = after_text(bytes, b"equation") {
+    if let Some(rest) = after_equation(bytes) {
         return equation_of(alloc, rest);
     }
-    if let Some(rest) = after_text(bytes, b"hypothesis") {
+    if let Some(rest) = after_hypothesis(bytes) {
         return hypothesis_of(alloc, rest);
     }
     if let Some(rest) = after_text(bytes, b"assumption") {
@@ -27,6 +28,38 @@ pub(crate) fn link_of(alloc: Global, bytes: &[u8]) -> Result<Option<Link>, Alloc
     match after_text(bytes, b"content") {
         Some(rest) => content_of(alloc, rest),
         None => Ok(None),
+    }
+}
+
+// The bytes after a text are had by a pattern where most lines of a proof begin with it: it is
+// compared whole, and not byte by byte.
+fn after_equation(bytes: &[u8]) -> Option<&[u8]>
+    ensures { option_map (λ r. r.now) result ≡ rest_after (codes "equation") bytes.now }
+{
+    match bytes {
+        [b'e', b'q', b'u', b'a', b't', b'i', b'o', b'n', rest @ ..] => Some(rest),
+        _ => None,
+    }
+}
+
+fn after_hypothesis(bytes: &[u8]) -> Option<&[u8]>
+    ensures { option_map (λ r. r.now) result ≡ rest_after (codes "hypothesis") bytes.now }
+{
+    match bytes {
+        [
+            b'h',
+            b'y',
+            b'p',
+            b'o',
+            b't',
+            b'h',
+            b'e',
+            b's',
+            b'i',
+            b's',
+            rest @ ..,
+        ] => Some(rest),
+        _ => None,
     }
 }
 

@@ -28,14 +28,20 @@ pub fn read_line(alloc: Global, bytes: &[u8]) -> Result<Option<Line>, AllocError
 pub fn after_left(bytes: &[u8]) -> Option<&[u8]>
     ensures { option_map (λ r. r.now) result ≡ rest_after (codes "left ") bytes.now }
 {
-    after_text(bytes, b"left ")
+    match bytes {
+        [b'l', b'e', b'f', b't', b' ', rest @ ..] => Some(rest),
+        _ => None,
+    }
 }
 
 /// The same of the right side.
 pub fn after_right(bytes: &[u8]) -> Option<&[u8]>
     ensures { option_map (λ r. r.now) result ≡ rest_after (codes "right ") bytes.now }
 {
-    after_text(bytes, b"right ")
+    match bytes {
+        [b'r', b'i', b'g', b'h', b't', b' ', rest @ ..] => Some(rest),
+        _ => None,
+    }
 }
 
 /// The bytes of a line after what each application of the table begins with. No other line's text
@@ -43,7 +49,10 @@ pub fn after_right(bytes: &[u8]) -> Option<&[u8]>
 pub fn after_application(bytes: &[u8]) -> Option<&[u8]>
     ensures { option_map (λ r. r.now) result ≡ rest_after (codes "a") bytes.now }
 {
-    after_text(bytes, b"a")
+    match bytes {
+        [b'a', rest @ ..] => Some(rest),
+        _ => None,
+    }
 }
 
 /// The operator of an application, of which these are the bytes after its letter. The numbers of
