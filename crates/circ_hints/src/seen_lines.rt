@@ -18,7 +18,7 @@ pub struct Seen {
 struct Lines {
     /// The first byte of the line; none where it begins.
     first: Option<u8>,
-    /// How many of its bytes no constant has.
+    /// How many of its bytes no constant has, if it is the line of a side.
     signs: u64,
     cases: u64,
     is_left_constant: bool,
@@ -43,9 +43,14 @@ impl Lines {
                 self.cases = self.cases.saturating_add(1);
             }
         }
-        if b" :()[]{},".contains(&byte) {
+        if self.is_side() && b" :()[]{},".contains(&byte) {
             self.signs = self.signs.saturating_add(1);
         }
+    }
+
+    /// Whether the line is that of a side. Of no other are the signs asked for.
+    fn is_side(&self) -> bool {
+        matches!(self.first, Some(b'l' | b'r'))
     }
 
     fn end_line(&mut self) {
