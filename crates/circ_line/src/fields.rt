@@ -4,7 +4,7 @@ ghost use Rattle.std.specs.Option.{option_map};
 ghost use Rattle.circ_line.specs.Read.{way_at, entries_at, path_at, rule_at};
 
 use crate::ENTRIES;
-use crate::numbers::{after_text, field_at, marked};
+use crate::numbers::{field_at, marked};
 use circ_proof::Way;
 use circ_term::Path;
 use std::alloc::{AllocError, Global};
@@ -63,8 +63,11 @@ pub(crate) fn fill_path<'a>(
     requires { path.old.items ≡ [] }
     ensures { IfOk result (λ o. option_map (λ r. (path.new.items, r.now)) o ≡ path_at bytes.now) }
 {
+    if let [b' ', b'-', rest @ ..] = bytes {
+        return Ok(Some(rest));
+    }
     let Some((first, rest)) = marked(bytes, b' ', ENTRIES) else {
-        return Ok(after_text(bytes, b" -"));
+        return Ok(None);
     };
     let rest = fill_entries(path, first as u16, rest)?;
     Ok(Some(rest))
