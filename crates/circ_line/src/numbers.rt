@@ -1,8 +1,8 @@
 //! Numbers at the front of bytes.
 ghost use Rattle.std.specs.Prelude.{◌≡◌, ◌<◌, ◌≤◌, ◌^◌, if◌then◌else◌, Some, None};
-ghost use Rattle.std.specs.Prelude.{IfOk, IfSome};
+ghost use Rattle.std.specs.Prelude.{[], Ok, false, IfOk, IfSome, OnErr};
 ghost use Rattle.std.specs.Option.{option_map};
-ghost use Rattle.circ_line.specs.Front.{rest_after, digits_at, number_at, marked, is_end};
+ghost use Rattle.circ_line.specs.Front.{rest_after, digits_at, number_at, marked, items_at, is_end};
 ghost use Rattle.circ_line.specs.Read.{field_at, numbers_of, number_of, pair_of};
 
 use crate::NUMBERS;
@@ -94,18 +94,42 @@ pub(crate) fn numbers_of(alloc: Global, bytes: &[u8]) -> Result<Option<Vec<u32>>
     Ok(Some(numbers))
 }
 
-/// The same. They go into a list, in the place of what it held; or there are others after them.
+/// The same. They go into a list, in the place of what it held. Whether nothing stands after them:
+/// else the list is empty.
 pub(crate) fn fill_numbers(numbers: &mut Vec<u32>, bytes: &[u8]) -> Result<bool, AllocError>
-    ensures { IfOk result (λ whole.
+    ensures filled { IfOk result (λ whole.
         (if whole then Some numbers.new.items else None) ≡ numbers_of bytes.now) }
+    ensures none { result ≡ Ok false → numbers.new.items ≡ [] }
+    ensures err { OnErr result (numbers.new.items ≡ []) }
 {
     numbers.clear();
+    match push_numbers(numbers, bytes) {
+        Ok(rest) => {
+            if is_end(rest) {
+                return Ok(true);
+            }
+            numbers.clear();
+            Ok(false)
+        }
+        Err(fault) => {
+            numbers.clear();
+            Err(fault)
+        }
+    }
+}
+
+/// As many numbers as there are, a space before each, go into a list that has none. The bytes after
+/// them.
+fn push_numbers<'a>(numbers: &mut Vec<u32>, bytes: &'a [u8]) -> Result<&'a [u8], AllocError>
+    requires { numbers.old.items ≡ [] }
+    ensures { IfOk result (λ r. (numbers.new.items, r.now) ≡ items_at field_at bytes.now) }
+{
     let mut rest = bytes;
     while let Some((number, more)) = field_at(rest) {
         numbers.push(number)?;
         rest = more;
     }
-    Ok(is_end(rest))
+    Ok(rest)
 }
 
 /// The bytes after a text that they begin with.

@@ -1,5 +1,5 @@
 //! Lines as text is read.
-ghost use Rattle.std.specs.Prelude.{◌≡◌, IfOk, codes};
+ghost use Rattle.std.specs.Prelude.{◌≡◌, [], Ok, None, IfOk, OnErr, codes};
 ghost use Rattle.std.specs.Option.{option_map};
 ghost use Rattle.circ_proof.specs.Plain.{plain_link};
 ghost use Rattle.circ_line.specs.Front.{rest_after, then_whole, after_or};
@@ -57,12 +57,15 @@ pub fn after_application(bytes: &[u8]) -> Option<&[u8]>
 
 /// The operator of an application, of which these are the bytes after its letter. The numbers of
 /// its arguments go into a list, in the place of what it held, so that none is made for the line.
-/// Where no operator is answered the list holds as many as were read.
+/// Where no operator is answered the list is empty.
 pub fn read_application(args: &mut Vec<u32>, bytes: &[u8]) -> Result<Option<u32>, AllocError>
-    ensures { IfOk result (λ o. option_map (λ op. (op, args.new.items)) o ≡
+    ensures read { IfOk result (λ o. option_map (λ op. (op, args.new.items)) o ≡
         then_whole field_at numbers_of bytes.now) }
+    ensures none { result ≡ Ok None → args.new.items ≡ [] }
+    ensures err { OnErr result (args.new.items ≡ []) }
 {
     let Some((op, rest)) = field_at(bytes) else {
+        args.clear();
         return Ok(None);
     };
     if !fill_numbers(args, rest)? {

@@ -1,9 +1,9 @@
-use Rattle.std.proofs.Common.{sym, subst, ap, ◌∙◌, List, ℕ, Some, None, if◌then◌else◌}
-use Rattle.circ_line.specs.Front.{Run, ended}
+use Rattle.std.proofs.Common.{sym, subst, List, ℕ}
+use Rattle.circ_line.specs.Front.{Run}
 use Rattle.circ_line.specs.Read.{field_at}
 use Rattle.circ_line.proofs.Many.{shorter, run_push, run_items_at}
 use Rattle.circ_line.proofs.FieldTexts.{field_item, field_follows}
-use Rattle.circ_line.proofs.numbers.fill_numbers.Goals as goal
+use Rattle.circ_line.proofs.numbers.push_numbers.Goals as goal
 
 pub loop-number-smaller : goal.loop-number-smaller
 loop-number-smaller c = shorter field_item field_follows c.loop-number.rest.now c.in-Some.number c.in-Some.more.now c.in-Some.ensures
@@ -16,6 +16,4 @@ loop-number-preserved c =
 
 pub returns : goal.returns
 returns c =
-    let ns = c.loop-number.numbers.items in
-    ap (λ b. if b then Some ns else None) c.is_end.ensures
-    ∙ ap ended (run_items_at field_item field_follows c.args.bytes.now ns c.loop-number.rest.now c.loop-number.invariant c.in_default.ensures)
+    run_items_at field_item field_follows c.args.bytes.now c.loop-number.numbers.items c.loop-number.rest.now c.loop-number.invariant c.in_default.ensures

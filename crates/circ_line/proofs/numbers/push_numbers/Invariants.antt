@@ -1,7 +1,7 @@
 use Rattle.std.proofs.Common.{length}
 use Rattle.circ_line.specs.Front.{Run}
 use Rattle.circ_line.specs.Read.{field_at}
-use Rattle.circ_line.proofs.numbers.fill_numbers.Given as goal
+use Rattle.circ_line.proofs.numbers.push_numbers.Given as goal
 
 abbrev pub invariant-loop-number : goal.invariant-loop-number
 invariant-loop-number l = Run field_at l.bytes l.numbers.items l.rest
